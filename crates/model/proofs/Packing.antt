@@ -5,11 +5,11 @@ use mathlib.Core.List.{List, [], _∷_, _++_, map}
 use native.Mathlib.Nat.{pow-suc, mod-add-div, div-lt-iff-lt-mul}
 use native.Mathlib.Omega.{arith}
 use lib.ListN.{length, getD, take, drop}
-use Rattle.std.specs.shelf.Lists.{joined}
+use Rattle.std.specs.shelf.Lists.{All, joined}
 use Rattle.std.specs.Iters.{counting}
 use Rattle.std.proofs.shelf.Lists.{append-assoc, append-nil, take-at, take-all, take-append-drop, drop-at, drop-more, length-append, length-map, length-take-le, getD-map, getD-default, getD-take, same-lists}
 use Rattle.std.proofs.shelf.Counted.{length-map-counting, getD-map-counting, map-counting-more}
-use Rattle.model.specs.Traces.{low-first, value, word, word-at, table, packed, part-at, parts-in, Each, Record, laid, record-of, file, Traceable, Files-tell}
+use Rattle.model.specs.Traces.{low-first, value, word, word-at, table, packed, part-at, parts-in, Throughout, Record-length, Record, laid, record-of, file, Traceable, Files-tell}
 
 -- NUMBERS IN BYTES
 
@@ -26,11 +26,10 @@ value-low (suc k) n h =
     let s = mod-add-div n 256 in
     omega arith
 
-pub low-value : (bs : List ℕ) → Each (λ b. b < 256) bs → low-first (length bs) (value bs) ≡ bs
+pub low-value : (bs : List ℕ) → All (λ b. b < 256) bs → low-first (length bs) (value bs) ≡ bs
 low-value [] h = refl
-low-value (b ∷ bs) h =
-    let l : b < 256 = h 0 0 (omega arith) in
-    let r = low-value bs (λ k d m. h (suc k) d (omega arith)) in
+low-value (b ∷ bs) (l, h) =
+    let r = low-value bs h in
     let x : (b + 256 * value bs) % 256 ≡ b = omega arith in
     let y : (b + 256 * value bs) / 256 ≡ value bs = omega arith in
     cc
@@ -54,11 +53,11 @@ start n = 4 + 8 * n
 
 -- parts that a trace can have
 abbrev pub Part : List ℕ → Type 0
-Part p = (15 ≤ length p) × (length p ≤ 1793)
+Part p = Record-length (length p)
 
 pub record Packable (ps : List (List ℕ)) : Type 0 where
   pub few : length ps ≤ 1024
-  pub sized : Each Part ps
+  pub sized : Throughout Part ps
 
 pub all-append : (ps qs : List (List ℕ)) → all (ps ++ qs) ≡ all ps ++ all qs
 all-append [] qs = refl
@@ -83,7 +82,7 @@ length-packed ps =
     let l = length-append (table (start (length ps)) ps) (all ps) in
     omega arith
 
-pub all-below : (ps : List (List ℕ)) → Each Part ps → length (all ps) ≤ 1793 * length ps
+pub all-below : (ps : List (List ℕ)) → Throughout Part ps → length (all ps) ≤ 1793 * length ps
 all-below [] h = omega arith
 all-below (p ∷ ps) h =
     let l = h 0 [] (omega arith) in

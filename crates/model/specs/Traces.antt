@@ -20,14 +20,18 @@ laid r = r .port ∷ r .packet
 abbrev pub record-of : List ℕ → Record
 record-of bytes = record { port = getD bytes 0 0; packet = drop 1 bytes }
 
+-- a record's bytes are 15 to 1,793
+abbrev pub Record-length : ℕ → Type 0
+Record-length n = (15 ≤ n) × (n ≤ 1793)
+
 -- each element of a list is such
-abbrev pub Each : {A : Type 0} → (A → Type 0) → List A → Type 0
-Each {A} P xs = (k : ℕ) (d : A) → k < length xs → P (getD xs k d)
+abbrev pub Throughout : {A : Type 0} → (A → Type 0) → List A → Type 0
+Throughout {A} P xs = (k : ℕ) (d : A) → k < length xs → P (getD xs k d)
 
 -- the records that a trace can have: at most 1,024, each with a packet of 14 to 1,792 bytes
 pub record Traceable (rs : List Record) : Type 0 where
   pub few : length rs ≤ 1024
-  pub sized : Each (λ r. Packet-length (length (r .packet))) rs
+  pub sized : Throughout (λ r. Packet-length (length (r .packet))) rs
 
 -- a number in k bytes, low byte first
 abbrev pub low-first : ℕ → ℕ → List ℕ

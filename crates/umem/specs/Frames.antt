@@ -1,6 +1,9 @@
 -- The frame memory: frames of 2,048 bytes, and the packets that they hold.
 use Prim.Native.Nat.{ℕ, _+_, _*_, _/_, _%_, _≤_}
 use mathlib.Core.Path.{_≡_}
+use mathlib.Core.List.{List}
+use lib.ListN.{length}
+use lib.Seq.{paste}
 use Rattle.umem.specs.declared.refusal.Refusal.the-variants.{WrongPacketLength}
 use Rattle.umem.specs.Refusals.{number}
 
@@ -18,6 +21,10 @@ frame-named a = a / frame-size
 
 abbrev pub place-named : ℕ → ℕ
 place-named a = a % frame-size
+
+-- bytes with a part written over them from a place on, and each other byte as it was
+abbrev pub written : List ℕ → ℕ → List ℕ → List ℕ
+written bytes place part = paste bytes place part (length part)
 
 -- a switch has 1 to 256 frames
 abbrev pub Frame-count : ℕ → Type 0

@@ -1,0 +1,4 @@
+pub mod FourBytes
+pub mod Held
+pub mod Steps
+pub mod Trips

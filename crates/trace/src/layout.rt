@@ -1,0 +1,13 @@
+// How a record is laid out: one byte for the port, then the packet.
+pub mod bytes;
+
+// How many bytes a record has: the port byte, and a packet of 14 to 1,792 bytes.
+pub const MIN_RECORD: usize = 15;
+pub const MAX_RECORD: usize = 1793;
+
+// A record, where it stands.
+#[derive(Clone, Copy)]
+pub struct Record<'a> {
+    pub port: u8,
+    pub packet: &'a [u8],
+}

@@ -1,0 +1,23 @@
+// A record and its bytes.
+ghost use mathlib.Core.Path.{_≡_};
+ghost use Prim.Native.Nat.{_+_, _≤_};
+ghost use lib.ListN.{length};
+ghost use Rattle.std.specs.Options.{Cases as BySome};
+ghost use Rattle.model.specs.Traces.{laid};
+ghost use Rattle.trace.specs.Meanings.{meant};
+use super::Record;
+
+impl<'a> Record<'a> {
+    // The record that is laid out as these bytes; none where there is no byte for the port.
+    pub fn parse(bytes: &'a [u8]) -> Option<Record<'a>>
+        ensures { λ r. ⌜ BySome r (length (now (bytes .entry)) ≡ 0) (λ v. laid (meant v) ≡ now (bytes .entry)) ⌝ }
+    {
+        match bytes {
+            [port, packet @ ..] => Some(Record {
+                port: *port,
+                packet,
+            }),
+            [] => None,
+        }
+    }
+}

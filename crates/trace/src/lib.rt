@@ -1,0 +1,4 @@
+// Trace files: a count, a table of offsets and lengths, and the records.
+pub mod layout;
+pub mod traces;
+mod words;
