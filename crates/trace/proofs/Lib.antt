@@ -1,4 +1,7 @@
+pub mod Adding
+pub mod Chains
 pub mod FourBytes
 pub mod Held
+pub mod Rows
 pub mod Steps
 pub mod Trips

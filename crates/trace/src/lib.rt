@@ -1,4 +1,7 @@
 // Trace files: a count, a table of offsets and lengths, and the records.
 pub mod layout;
+pub mod recording;
+pub mod store;
 pub mod traces;
 mod words;
+mod writing;

@@ -1,7 +1,7 @@
 // Frames, their addresses, and how long a packet may be.
 ghost use mathlib.Core.Path.{_≡_};
 ghost use Prim.Native.Nat.{_*_};
-ghost use Rattle.umem.specs.Frames.{address, frame-size, frame-named, Frame-count, Length-applies};
+ghost use Rattle.umem.specs.Frames.{address, frame-size, frame-named, Frame-count, Length-applies, Packet-length};
 ghost use Rattle.umem.specs.Refusing.{Answers};
 ghost use Rattle.std.specs.Orderings.{When};
 use crate::refusal::Refusal;
@@ -46,7 +46,7 @@ pub fn frame_of(at: u64) -> u64
 
 // Refuses a length that no packet has.
 pub fn check_packet_length(length: usize) -> Result<(), Refusal>
-    ensures { λ r. ⌜ Answers (Length-applies length) (λ _. Unit {0}) (Unit {0}) r ⌝ }
+    ensures { λ r. ⌜ Answers (Length-applies length) (λ _. Packet-length length) (Unit {0}) r ⌝ }
 {
     if length < MIN_PACKET || length > MAX_PACKET {
         return Err(Refusal::WrongPacketLength);

@@ -4,8 +4,10 @@ ghost use Prim.Native.Nat.{_+_, _≤_};
 ghost use lib.ListN.{length};
 ghost use Rattle.std.specs.Options.{Cases as BySome};
 ghost use Rattle.model.specs.Traces.{laid};
+ghost use Rattle.umem.specs.Frames.{written};
 ghost use Rattle.trace.specs.Meanings.{meant};
 use super::Record;
+use crate::words::put;
 
 impl<'a> Record<'a> {
     // The record that is laid out as these bytes; none where there is no byte for the port.
@@ -19,5 +21,14 @@ impl<'a> Record<'a> {
             }),
             [] => None,
         }
+    }
+
+    // Lays the record out from a place on.
+    pub(crate) fn put(self, buffer: &mut [u8], at: usize)
+        requires { ⌜ at + length (laid (meant self)) ≤ length (now buffer) ⌝ }
+        ensures { λ _. ⌜ now (buffer .exit) ≡ written (now (buffer .entry)) at (laid (meant (self .entry))) ⌝ }
+    {
+        put(buffer, at, &[self.port]);
+        put(buffer, at + 1, self.packet);
     }
 }
