@@ -201,13 +201,13 @@ parts-back ps n h fits =
     same-lists (parts-in (packed ps) n) (take n ps)
     (length-map-counting (part-at (packed ps)) 0 n ∙ sym (length-take-le n ps h))
     (λ k d l.
-      let c = length-map-counting (part-at (packed ps)) 0 n in
-      let below : k < n = omega arith in
-      let inside : k < length ps = omega arith in
-      getD-map-counting (part-at (packed ps)) 0 n k k d below (omega arith)
-      ∙ told ps k inside fits .part
-      ∙ getD-default ps k [] d inside
-      ∙ sym (getD-take n ps k d below))
+    let c = length-map-counting (part-at (packed ps)) 0 n in
+    let below : k < n = omega arith in
+    let inside : k < length ps = omega arith in
+    getD-map-counting (part-at (packed ps)) 0 n k k d below (omega arith)
+    ∙ told ps k inside fits .part
+    ∙ getD-default ps k [] d inside
+    ∙ sym (getD-take n ps k d below))
 
 -- RECORDS
 
@@ -219,12 +219,15 @@ pub packable : (rs : List Record) → Traceable rs → Packable (map laid rs)
 packable rs h =
     let n = length-map rs laid in
     let f = h .few in
-    record { few = omega arith; sized = λ k d l.
-      let below : k < length rs = omega arith in
-      let none : Record = record { port = 0; packet = [] } in
-      let s = h .sized k none below in
-      let e = getD-map laid rs k none d below in
-      subst Part (sym e) (omega arith, omega arith) }
+    record {
+      few = omega arith;
+      sized = λ k d l.
+          let below : k < length rs = omega arith in
+          let none : Record = record { port = 0; packet = [] } in
+          let s = h .sized k none below in
+          let e = getD-map laid rs k none d below in
+          subst Part (sym e) (omega arith, omega arith);
+    }
 
 -- the records of a file are read back from it
 pub records-back : (rs : List Record) → Traceable rs → map record-of (parts-in (file rs) (length rs)) ≡ rs

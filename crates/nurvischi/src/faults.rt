@@ -35,7 +35,10 @@ pub impl From<AllocError> for Fault as FaultFromAllocError {
 pub impl fmt::Display for Fault as FaultDisplay {
     fn fmt<W: fmt::Write>(&self, f: &mut fmt::Formatter<W>) -> fmt::Result {
         match self {
-            Fault::Unknown(word) => write!(f, "unknown word `{word}`; `nurvischi help` lists the words"),
+            Fault::Unknown(word) => write!(
+                f,
+                "unknown word `{word}`; `nurvischi help` lists the words"
+            ),
             Fault::Words(what) => write!(f, "{what}"),
             Fault::Unreadable(path, why) => write!(f, "{path}: cannot be read: {why}"),
             Fault::Refused(path, refusal) => {

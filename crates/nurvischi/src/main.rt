@@ -3,12 +3,13 @@ mod faults;
 mod hex;
 mod inspect;
 
+use crate::faults::FaultFromError;
 use faults::Fault;
 use faults::FaultDisplay;
 use std::env;
-use crate::faults::FaultFromError;
 
-const HELP: &str = "nurvischi inspect TRACE   list the records of a trace file: `N P LENGTH HEX` for each, then `records COUNT`
+const HELP: &str =
+    "nurvischi inspect TRACE   list the records of a trace file: `N P LENGTH HEX` for each, then `records COUNT`
 nurvischi help            these words
 
 Numbers are base ten, bytes are hexadecimal pairs. The documents are in the folder docs/ of the repository:

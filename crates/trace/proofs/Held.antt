@@ -53,13 +53,16 @@ parts-sized ps h k d l =
 pub records-fit : (ps : List (List ℕ)) → length ps ≤ 1024 → Throughout (λ p. Record-length (length p)) ps → Traceable (map record-of ps)
 records-fit ps f h =
     let n = length-map ps record-of in
-    record { few = omega arith; sized = λ k d l.
-      let below : k < length ps = omega arith in
-      let e = getD-map record-of ps k [] d below in
-      let s = h k [] below in
-      let q = ap (λ (r : Record). length (r .packet)) e in
-      let w = length-drop 1 (getD ps k []) in
-      (omega arith, omega arith) }
+    record {
+      few = omega arith;
+      sized = λ k d l.
+          let below : k < length ps = omega arith in
+          let e = getD-map record-of ps k [] d below in
+          let s = h k [] below in
+          let q = ap (λ (r : Record). length (r .packet)) e in
+          let w = length-drop 1 (getD ps k []) in
+          (omega arith, omega arith);
+    }
 
 -- A TRACE
 

@@ -162,6 +162,7 @@ module _ (bytes : List ℕ) (count : ℕ) (head : Headed bytes count) where
           let d = drop-drop 4 (4 + 8 * k) bytes in
           let y : 4 + 8 * k + 4 ≡ 8 + 8 * k = omega arith in
           cc
+
       -- bytes that follow on
       behind : (n m a e : ℕ) → a + n ≡ e → take n (drop a bytes) ++ take m (drop e bytes) ≡ take (n + m) (drop a bytes)
       behind n m a e z =

@@ -66,6 +66,7 @@ reads-back rs before after (Ok n) h (_, (e, w)) = go
   where
     front : take n after ≡ file rs
     front = ap (λ (k : ℕ). take k after) e ∙ ap (take (length (file rs))) w ∙ front-written before (file rs)
+
     go : Reads-back rs after (Ok n)
     go (Ok t) (_, (whole, same)) = files-tell (records-of t) rs (whole .fits) h (whole .exact ∙ same ∙ front)
     go (Err d) (((_, none), _), _) = none rs h (sym front)

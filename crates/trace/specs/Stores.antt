@@ -1,6 +1,6 @@
 -- What a store means, and what is added to it.
 use mathlib.Core.Path.{_≡_}
-use mathlib.Core.List.{List, map}
+use mathlib.Core.List.{List, [], _∷_, _++_, map}
 use mathlib.Core.Logic.{_⊎_}
 use Prim.Native.Nat.{ℕ, _+_, _≤_, _<_}
 use lib.ListN.{length, set, take}
@@ -14,19 +14,23 @@ use Rattle.umem.specs.Refusing.{Answers}
 use Rattle.model.specs.Traces.{Record, laid}
 use Rattle.trace.specs.declared.store.Pair.{Pair}
 use Rattle.trace.specs.declared.store.Store.{Store}
-use Rattle.trace.specs.Pairs.{cut-records}
+use Rattle.trace.specs.Pairs.{cut-records, Gapless, Sized}
 
 -- the pairs in use
 abbrev pub pairs : Store → List Pair
 pairs s = take (s .marks .count) (now (s .table))
 
--- the bytes in use
-abbrev pub used-bytes : Store → List ℕ
-used-bytes s = take (s .marks .used) (now (s .area))
-
 -- the records, oldest first
 abbrev pub held-records : Store → List Record
 held-records s = cut-records (now (s .area)) (pairs s)
+
+-- what always holds of a recording: the pairs in use lie in the table, follow one another with no gap, are as long as
+-- records are, and name all bytes in use
+pub record Whole (s : Store) : Type 0 where
+  pub listed : s .marks .count ≤ length (now (s .table))
+  pub inside : s .marks .used ≤ length (now (s .area))
+  pub gapless : Gapless (pairs s) (s .marks .used)
+  pub sized : Sized (pairs s)
 
 -- there is a pair for one more record, and bytes for the longest
 pub record Room (s : Store) : Type 0 where
@@ -54,3 +58,11 @@ pub record Added (s t : Store) (r : Record) : Type 0 where
 
 abbrev pub Adds : Store → Store → Record → Result (Unit {0}) Refusal → Type 0
 Adds s t r a = Answers (Add-applies s r) (λ _. Added s t r) (Same s t) a
+
+-- the same, with the records
+pub record Grown (s t : Store) (r : Record) : Type 0 where
+  pub added : Added s t r
+  pub records : held-records t ≡ held-records s ++ r ∷ []
+
+abbrev pub Records-added : Store → Store → Record → Result (Unit {0}) Refusal → Type 0
+Records-added s t r a = Answers (Add-applies s r) (λ _. Grown s t r) (Same s t) a

@@ -3,6 +3,7 @@ pub mod bytes;
 
 // How many bytes a record has: the port byte, and a packet of 14 to 1,792 bytes.
 pub const MIN_RECORD: usize = 15;
+
 pub const MAX_RECORD: usize = 1793;
 
 // A record, where it stands.

@@ -2,6 +2,7 @@
 ghost use Prim.Native.Nat.{_*_, _≤_};
 
 pub mod adding;
+pub mod telling;
 
 // Where a record stands in the bytes.
 #[derive(Clone, Copy)]

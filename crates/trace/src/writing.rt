@@ -12,11 +12,7 @@ use crate::words::word_of;
 use umem::refusal::Refusal;
 
 // Puts the file of the records at the buffer's start. The pairs name all of `bytes`, one behind another.
-pub(crate) fn write_file(
-    pairs: &[Pair],
-    bytes: &[u8],
-    buffer: &mut [u8],
-) -> Result<usize, Refusal>
+pub(crate) fn write_file(pairs: &[Pair], bytes: &[u8], buffer: &mut [u8]) -> Result<usize, Refusal>
     requires { ⌜ Listed (now pairs) (now bytes) ⌝ }
     ensures { λ r. ⌜ Writes (cut-records (now (bytes .entry)) (now (pairs .entry))) (now (buffer .entry)) (now (buffer .exit)) r ⌝ }
 {

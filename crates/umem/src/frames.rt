@@ -14,6 +14,7 @@ pub const MAX_FRAMES: u32 = 256;
 
 // How long a packet may be.
 pub const MIN_PACKET: usize = 14;
+
 pub const MAX_PACKET: usize = 1792;
 
 // Whether a switch may have so many frames.

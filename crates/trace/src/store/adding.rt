@@ -30,7 +30,10 @@ impl<'a> Store<'a> {
         check_packet_length(item.packet.len())?;
         let count = self.marks.count;
         let used = self.marks.used;
-        if count >= MAX_RECORDS || count >= self.table.len() || self.area.len() < used + MAX_RECORD {
+        if count >= MAX_RECORDS
+            || count >= self.table.len()
+            || self.area.len() < used + MAX_RECORD
+        {
             return Err(Refusal::LogFull);
         }
         let length = item.packet.len() + 1;

@@ -42,7 +42,8 @@ impl Refusal {
             Refusal::WrongMemorySize => "the frame memory is not 2048 bytes for each frame",
             Refusal::WrongPacketLength => "a packet has 14 to 1792 bytes",
             Refusal::HandleNotOut => "the switch has no such handle out",
-            Refusal::UnfitSetup => "the number of frames, the number of ports or a port's number of frames does not fit",
+            Refusal::UnfitSetup =>
+                "the number of frames, the number of ports or a port's number of frames does not fit",
             Refusal::PortNotFresh => "a port holds something or has a ring of size 0",
             Refusal::PoolEmpty => "the pool has no frame",
             Refusal::FillFull => "the fill ring is full",

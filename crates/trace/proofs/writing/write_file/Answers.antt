@@ -20,9 +20,12 @@ pub returns : need.returns
 returns c =
     let ps = c .args .pairs .now in
     let l = listed-long ps (c .args .bytes .now) (c .pre) in
-    let first = 4 + 8 * length ps in
-    ( (λ n a. let s = a .1 in omega arith)
-    , ( omega arith
-      , c .put-2 .ensures
-        ∙ ap (λ (xs : List ℕ). written xs first (c .args .bytes .now)) (c .put-table .ensures ∙ ap (λ (xs : List ℕ). written xs 4 (rows first ps)) (c .put .ensures ∙ ap (written (c .args .buffer .now) 0) (c .word-of .ensures)))
-        ∙ three-writes ps (c .args .bytes .now) (c .pre) (c .args .buffer .now) (omega arith) ) )
+    let first = 4 + 8 * length ps in (
+      (λ n a. let s = a .1 in omega arith),
+      (
+        omega arith,
+        c .put-2 .ensures
+            ∙ ap (λ (xs : List ℕ). written xs first (c .args .bytes .now)) (c .put-table .ensures ∙ ap (λ (xs : List ℕ). written xs 4 (rows first ps)) (c .put .ensures ∙ ap (written (c .args .buffer .now) 0) (c .word-of .ensures)))
+            ∙ three-writes ps (c .args .bytes .now) (c .pre) (c .args .buffer .now) (omega arith),
+      ),
+    )
