@@ -1,5 +1,4 @@
 // What ends the program with status 1.
-use std::alloc::AllocError;
 use std::fmt;
 use std::io;
 use umem::refusal::Refusal;
@@ -15,7 +14,6 @@ pub enum Fault {
     Unreadable(String, io::Error),
     // What the library refuses of a file.
     Refused(String, Refusal),
-    NoMemory,
     // Standard output or the arguments failed.
     System(io::Error),
 }
@@ -23,12 +21,6 @@ pub enum Fault {
 pub impl From<io::Error> for Fault as FaultFromError {
     fn from(e: io::Error) -> Fault {
         Fault::System(e)
-    }
-}
-
-pub impl From<AllocError> for Fault as FaultFromAllocError {
-    fn from(_e: AllocError) -> Fault {
-        Fault::NoMemory
     }
 }
 
@@ -45,7 +37,6 @@ pub impl fmt::Display for Fault as FaultDisplay {
                 let number = refusal.number();
                 write!(f, "{path}: refused {number}: {refusal}")
             }
-            Fault::NoMemory => write!(f, "no memory"),
             Fault::System(why) => write!(f, "{why}"),
         }
     }

@@ -3,9 +3,9 @@ mod faults;
 mod hex;
 mod inspect;
 
-use crate::faults::FaultFromError;
 use faults::Fault;
 use faults::FaultDisplay;
+use faults::FaultFromError;
 use std::env;
 
 const HELP: &str =
@@ -24,7 +24,9 @@ fn main(rt: LibcRuntime) -> Result<(), Fault> {
 }
 
 fn run(rt: &LibcRuntime) -> Result<(), Fault> {
-    let mut words = env::args(rt)?;
+    let Ok(mut words) = env::args(rt) else {
+        return Err(Fault::Words("the words cannot be read as UTF-8 text"));
+    };
     let _ = words.next();
     let Some(command) = words.next() else {
         return help(rt);

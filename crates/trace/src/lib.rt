@@ -2,6 +2,8 @@
 pub mod layout;
 pub mod recording;
 pub mod store;
+#[cfg(test)]
+mod tests;
 pub mod traces;
 mod words;
 mod writing;

@@ -4,3 +4,5 @@ pub mod cause;
 pub mod descriptor;
 pub mod frames;
 pub mod refusal;
+#[cfg(test)]
+mod tests;
