@@ -4,7 +4,7 @@ use crate::faults::FaultFromError;
 use crate::hex::Hex;
 use crate::hex::HexDisplay;
 use std::fs;
-use trace::traces::Trace;
+use trace::Trace;
 
 pub fn run(rt: &LibcRuntime, path: String) -> Result<(), Fault> {
     let file = match fs::read(rt, path.as_str()) {

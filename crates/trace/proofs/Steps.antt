@@ -140,16 +140,17 @@ module _ (bytes : List ℕ) (count : ℕ) (head : Headed bytes count) where
       ∙ ap (λ (ys : List ℕ). take (8 * i) (drop 4 bytes) ++ (take 4 (drop (4 + 8 * i) bytes) ++ ys)) nw
       ∙ sym (row i)
       in
-      let stand =
-      ap all more
-      ∙ all-append xs (p ∷ [])
-      ∙ ap (λ (ys : List ℕ). all xs ++ ys) (append-nil p)
+      let joins : all (parts-in bytes (i + 1)) ≡ all xs ++ p =
+      ap all more ∙ all-append xs (p ∷ []) ∙ ap (λ (ys : List ℕ). all xs ++ ys) (append-nil p)
+      in
+      let stand : all (parts-in bytes (i + 1)) ≡ take (end + len - s) (drop s bytes) =
+      joins
       ∙ ap (λ (ys : List ℕ). ys ++ p) (r .stand)
       ∙ ap (λ (ys : List ℕ). take (end - s) (drop s bytes) ++ ys) (sym cut)
       ∙ behind (end - s) len s end (omega arith)
       ∙ ap (λ (k : ℕ). take k (drop s bytes)) (omega arith)
       in
-      let total = ap length (ap all more ∙ all-append xs (p ∷ []) ∙ ap (λ (ys : List ℕ). all xs ++ ys) (append-nil p)) ∙ length-append (all xs) p in
+      let total = ap length joins ∙ length-append (all xs) p in
       record { sized = subst P (sym more) sized; listed = listed; stand = stand; ends = omega arith; within = inside }
     where
       -- eight bytes more of the table

@@ -6,6 +6,9 @@ pub const MIN_RECORD: usize = 15;
 
 pub const MAX_RECORD: usize = 1793;
 
+// How many records a trace may have.
+pub const MAX_RECORDS: usize = 1024;
+
 // A record, where it stands.
 #[derive(Clone, Copy)]
 pub struct Record<'a> {

@@ -7,3 +7,8 @@ mod tests;
 pub mod traces;
 mod words;
 mod writing;
+
+pub use layout::Record;
+pub use recording::Recording;
+pub use store::Pair;
+pub use traces::Trace;

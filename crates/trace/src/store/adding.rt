@@ -6,8 +6,8 @@ use super::Marks;
 use super::Pair;
 use super::Store;
 use crate::layout::MAX_RECORD;
+use crate::layout::MAX_RECORDS;
 use crate::layout::Record;
-use crate::traces::reading::MAX_RECORDS;
 use umem::frames::check_packet_length;
 use umem::refusal::Refusal;
 

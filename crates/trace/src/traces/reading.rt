@@ -6,12 +6,10 @@ ghost use Rattle.trace.specs.Reading.{Headed, Not-a-trace, Reads, Right};
 ghost use Rattle.trace.specs.Writing.{Rewrites};
 use super::Trace;
 use crate::layout::MAX_RECORD;
+use crate::layout::MAX_RECORDS;
 use crate::layout::MIN_RECORD;
 use crate::words::word_at;
 use umem::refusal::Refusal;
-
-// How many records a trace may have.
-pub const MAX_RECORDS: usize = 1024;
 
 impl<'a> Trace<'a> {
     // The trace whose file these bytes are.
