@@ -12,7 +12,8 @@ pub record Record : Type 0 where
   pub port : ℕ
   pub packet : List ℕ
 
--- how a record is laid out: one byte for the port, then the packet. No other definition says where its parts stand
+-- how a record is laid out: one byte for the port, then the packet. Only `record-of`, which reads it back, and the two
+-- lengths below hang on it
 abbrev pub laid : Record → List ℕ
 laid r = r .port ∷ r .packet
 
@@ -20,9 +21,15 @@ laid r = r .port ∷ r .packet
 abbrev pub record-of : List ℕ → Record
 record-of bytes = record { port = getD bytes 0 0; packet = drop 1 bytes }
 
--- a record's bytes are 15 to 1,793
+-- a record has 15 to 1,793 bytes
+abbrev pub shortest-record : ℕ
+shortest-record = 15
+
+abbrev pub longest-record : ℕ
+longest-record = 1793
+
 abbrev pub Record-length : ℕ → Type 0
-Record-length n = (15 ≤ n) × (n ≤ 1793)
+Record-length n = (shortest-record ≤ n) × (n ≤ longest-record)
 
 -- each element of a list is such
 abbrev pub Throughout : {A : Type 0} → (A → Type 0) → List A → Type 0

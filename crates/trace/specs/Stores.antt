@@ -11,7 +11,7 @@ use Rattle.umem.specs.declared.refusal.Refusal.the-variants.{LogFull}
 use Rattle.umem.specs.Frames.{written, Length-applies}
 use Rattle.umem.specs.Refusals.{number}
 use Rattle.umem.specs.Refusing.{Answers}
-use Rattle.model.specs.Traces.{Record, laid}
+use Rattle.model.specs.Traces.{Record, laid, longest-record}
 use Rattle.trace.specs.declared.store.Pair.{Pair}
 use Rattle.trace.specs.declared.store.Store.{Store}
 use Rattle.trace.specs.Pairs.{cut-records, Gapless, Sized}
@@ -36,7 +36,7 @@ pub record Whole (s : Store) : Type 0 where
 pub record Room (s : Store) : Type 0 where
   pub few : s .marks .count < 1024
   pub listed : s .marks .count < length (now (s .table))
-  pub bytes : s .marks .used + 1793 ≤ length (now (s .area))
+  pub bytes : s .marks .used + longest-record ≤ length (now (s .area))
 
 -- 3 applies to adding a record with a packet of a wrong length, 13 where there is no room
 abbrev pub Add-applies : Store → Record → ℕ → Type 0

@@ -1,5 +1,6 @@
 // Records held as pairs and bytes in memory that the caller lends.
 ghost use Prim.Native.Nat.{_*_, _≤_};
+ghost use Rattle.model.specs.Traces.{longest-record};
 
 pub mod adding;
 pub mod telling;
@@ -17,7 +18,7 @@ pub struct Marks {
     count: usize,
     used: usize,
     ghost few: { count ≤ 1024 },
-    ghost short: { used ≤ count * 1793 },
+    ghost short: { used ≤ count * longest-record },
 }
 
 // The parts without what always holds of them, which `Recording` adds: a struct with such a field lends no part of its

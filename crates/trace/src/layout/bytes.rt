@@ -23,6 +23,13 @@ impl<'a> Record<'a> {
         }
     }
 
+    // How many bytes the record is laid out in.
+    pub fn size(self) -> usize
+        ensures { λ r. ⌜ r ≡ length (laid (meant (self .entry))) ⌝ }
+    {
+        self.packet.len() + 1
+    }
+
     // Lays the record out from a place on.
     pub(crate) fn put(self, buffer: &mut [u8], at: usize)
         requires { ⌜ at + length (laid (meant self)) ≤ length (now buffer) ⌝ }

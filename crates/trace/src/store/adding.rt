@@ -36,7 +36,7 @@ impl<'a> Store<'a> {
         {
             return Err(Refusal::LogFull);
         }
-        let length = item.packet.len() + 1;
+        let length = item.size();
         item.put(self.area, used);
         self.table[count] = Pair {
             offset: used as u32,
