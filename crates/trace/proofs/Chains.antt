@@ -4,12 +4,12 @@ use mathlib.Core.List.{List, [], _∷_, _++_, map}
 use Prim.Native.Nat.{ℕ, zero, suc, _+_, _-_, _*_, _<_, _≤_}
 use native.Mathlib.Omega.{arith}
 use lib.ListN.{length, getD, take, drop}
+use lib.Seq.{take-add}
 use Rattle.std.proofs.shelf.Lists.{append-assoc, take-take, drop-take, drop-drop, length-take-le, length-drop, take-all}
 use Rattle.model.specs.Traces.{word, table, Throughout, Record-length}
 use Rattle.model.proofs.Packing.{all}
 use Rattle.trace.specs.declared.store.Pair.{Pair}
 use Rattle.trace.specs.Pairs.{cut, offset-of, length-of, offsets, rows, Gapless, Sized}
-use Rattle.trace.proofs.Steps.{take-parts}
 
 -- the same, step by step
 abbrev pub Chained : ℕ → List Pair → ℕ → Type 0
@@ -91,7 +91,7 @@ parts-joined xs a (p ∷ ps) e h =
     let l = chained-le (a + n) ps e (h .1) in
     let r = parts-joined xs (a + n) ps e (h .1) in
     let z : n + (e - (a + n)) ≡ e - a = omega arith in
-    let t = take-parts n (e - (a + n)) (drop a xs) in
+    let t = take-add n (e - (a + n)) (drop a xs) in
     let d = drop-drop n a xs in
     cc
 

@@ -13,6 +13,7 @@ use Rattle.umem.specs.Frames.{Packet-length, written}
 use Rattle.umem.specs.Refusing.{None-applies}
 use Rattle.umem.proofs.Written.{length-written, front-written}
 use Rattle.model.specs.Traces.{Record, laid, record-of, Traceable, Record-length}
+use Rattle.trace.specs.declared.recording.Recording.{Recording}
 use Rattle.trace.specs.declared.store.Pair.{Pair}
 use Rattle.trace.specs.declared.store.Store.{Store}
 use Rattle.trace.specs.Pairs.{cut, cut-records, Gapless, Sized, Listed}
@@ -21,6 +22,10 @@ use Rattle.trace.proofs.Adding.{served-long, served-room}
 use Rattle.trace.proofs.Chains.{chained, parts-kept, gapless-more}
 use Rattle.trace.proofs.Rows.{listed-fit}
 use Rattle.trace.proofs.Steps.{throughout-push}
+
+-- what a recording carries in its type
+pub whole-of : (r : Recording) → Whole (r .store)
+whole-of r = record { listed = r .listed; inside = r .inside; gapless = r .gapless; sized = r .sized }
 
 pub length-held : (s : Store) → Whole s → length (held-records s) ≡ s .marks .count
 length-held s w =

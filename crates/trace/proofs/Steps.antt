@@ -5,6 +5,7 @@ use mathlib.Core.List.{List, [], _∷_, _++_, map}
 use mathlib.Core.Logic.{⊎-elim}
 use native.Mathlib.Omega.{arith}
 use lib.ListN.{length, getD, take, drop}
+use lib.Seq.{take-add}
 use Rattle.std.specs.Iters.{counting}
 use Rattle.std.proofs.shelf.Lists.{append-nil, append-assoc, take-take, take-all, take-append-drop, drop-take, drop-drop, length-take-le, length-append, length-push, length-map, length-drop, getD-append-left, getD-push}
 use Rattle.std.proofs.shelf.Counted.{map-counting-more}
@@ -13,14 +14,6 @@ use Rattle.model.specs.Traces.{Record, Traceable, Throughout, Record-length, la
 use Rattle.model.proofs.Packing.{Packable, Told, told, all, start, packable, all-append, table-append, length-packed, packed-count, parts-back, count-back}
 use Rattle.trace.specs.Reading.{No-records, Headed, Right}
 use Rattle.trace.proofs.Held.{length-parts}
-
--- the front of a list, in two parts
-pub take-parts : (n m : ℕ) (xs : List ℕ) → take (n + m) xs ≡ take n xs ++ take m (drop n xs)
-take-parts n m xs =
-    let e = take-append-drop n (take (n + m) xs) in
-    let f = take-take n (n + m) xs (omega arith) in
-    let g = drop-take n m xs in
-    cc
 
 pub throughout-push : {A : Type 0} (P : A → Type 0) (xs : List A) (x : A) → Throughout P xs → P x → Throughout P (xs ++ x ∷ [])
 throughout-push P xs x h p k d l =
@@ -157,8 +150,8 @@ module _ (bytes : List ℕ) (count : ℕ) (head : Headed bytes count) where
       row : (k : ℕ) → take (8 * (k + 1)) (drop 4 bytes) ≡ take (8 * k) (drop 4 bytes) ++ (take 4 (drop (4 + 8 * k) bytes) ++ take 4 (drop (8 + 8 * k) bytes))
       row k =
           let z : 8 * (k + 1) ≡ 8 * k + 8 = omega arith in
-          let a = take-parts (8 * k) 8 (drop 4 bytes) in
-          let b = take-parts 4 4 (drop (8 * k) (drop 4 bytes)) in
+          let a = take-add (8 * k) 8 (drop 4 bytes) in
+          let b = take-add 4 4 (drop (8 * k) (drop 4 bytes)) in
           let c = drop-drop (8 * k) 4 bytes in
           let d = drop-drop 4 (4 + 8 * k) bytes in
           let y : 4 + 8 * k + 4 ≡ 8 + 8 * k = omega arith in
@@ -167,7 +160,7 @@ module _ (bytes : List ℕ) (count : ℕ) (head : Headed bytes count) where
       -- bytes that follow on
       behind : (n m a e : ℕ) → a + n ≡ e → take n (drop a bytes) ++ take m (drop e bytes) ≡ take (n + m) (drop a bytes)
       behind n m a e z =
-          let t = take-parts n m (drop a bytes) in
+          let t = take-add n m (drop a bytes) in
           let d = drop-drop n a bytes in
           cc
 

@@ -1,23 +1,22 @@
 -- Reading and writing undo each other.
-use Prim.Native.Nat.{ℕ, _+_, _-_, _*_, _<_, _≤_}
+use Prim.Native.Nat.{ℕ}
 use mathlib.Core.Path.{_≡_, refl, sym, ap, subst, _∙_}
-use mathlib.Core.List.{List, [], _∷_, _++_, map}
+use mathlib.Core.List.{List}
 use native.Mathlib.Omega.{arith}
 use denote.Ref.{now}
-use lib.ListN.{length, getD, take, drop}
+use lib.ListN.{length, take}
 use Rattle.std.specs.declared.result.Result.{Result}
 use Rattle.std.specs.declared.result.Result.the-variants.{Ok, Err}
-use Rattle.std.proofs.shelf.Lists.{append-assoc, take-all, take-at}
 use Rattle.umem.specs.declared.refusal.Refusal.{Refusal}
 use Rattle.umem.specs.declared.refusal.Refusal.the-variants.{NotATrace}
-use Rattle.umem.specs.Frames.{written}
 use Rattle.umem.specs.Refusals.{number}
 use Rattle.umem.specs.Refusing.{None-applies, Smallest}
-use Rattle.model.specs.Traces.{Record, Traceable, record-of, parts-in, packed, file}
+use Rattle.umem.proofs.Written.{front-written}
+use Rattle.model.specs.Traces.{Record, Traceable, parts-in, packed, file}
 use Rattle.model.proofs.Packing.{files-tell}
 use Rattle.trace.specs.declared.traces.Trace.{Trace}
 use Rattle.trace.specs.Meanings.{records-of, Accepted}
-use Rattle.trace.specs.Reading.{No-records, Not-a-trace, Read-applies, Reads, Headed, Right}
+use Rattle.trace.specs.Reading.{Not-a-trace, Read-applies, Reads, Headed, Right}
 use Rattle.trace.specs.Writing.{Writes, Reads-back, Rewrites}
 use Rattle.trace.proofs.Held.{length-parts, laid-all, records-fit}
 use Rattle.trace.proofs.Steps.{right-exact}
@@ -46,27 +45,17 @@ served t whole n (_, none) = none (records-of t) (whole .fits) (whole .exact)
 
 -- THERE AND BACK
 
--- what is written over the front of a buffer stands there
-pub front-written : (before part : List ℕ) → take (length part) (written before 0 part) ≡ part
-front-written before part =
-    let t = take-all (length part) part (omega arith) in
-    let a = take-at part (drop (0 + length part) before) (length part) refl in
-    ap (λ (xs : List ℕ). take (length part) (xs ++ drop (0 + length part) before)) t ∙ a
+-- the file stands at the front of the buffer that it was written to
+written-file : (rs : List Record) (before after : List ℕ) (n : ℕ) → Writes rs before after (Ok n) → take n after ≡ file rs
+written-file rs before after n (_, (e, w)) = ap (take n) w ∙ front-written before (file rs) 0 n (omega arith) (omega arith)
 
 pub rewrites : (t : Trace) → Accepted t → Rewrites (now (t .file)) (Ok t)
-rewrites t whole before after n (_, (e, w)) =
-    ap (λ (k : ℕ). take k after) e
-    ∙ ap (take (length (file (records-of t)))) w
-    ∙ front-written before (file (records-of t))
-    ∙ whole .exact
+rewrites t whole before after n h = written-file (records-of t) before after n h ∙ whole .exact
 
 pub reads-back : (rs : List Record) (before after : List ℕ) (r : Result ℕ Refusal) → Traceable rs → Writes rs before after r → Reads-back rs after r
 reads-back rs before after (Err e) h w = tt
-reads-back rs before after (Ok n) h (_, (e, w)) = go
+reads-back rs before after (Ok n) h w = go
   where
-    front : take n after ≡ file rs
-    front = ap (λ (k : ℕ). take k after) e ∙ ap (take (length (file rs))) w ∙ front-written before (file rs)
-
     go : Reads-back rs after (Ok n)
-    go (Ok t) (_, (whole, same)) = files-tell (records-of t) rs (whole .fits) h (whole .exact ∙ same ∙ front)
-    go (Err d) (((_, none), _), _) = none rs h (sym front)
+    go (Ok t) (_, (whole, same)) = files-tell (records-of t) rs (whole .fits) h (whole .exact ∙ same ∙ written-file rs before after n w)
+    go (Err d) (((_, none), _), _) = none rs h (sym (written-file rs before after n w))
