@@ -1,12 +1,12 @@
 -- The law of refusing settles the answer.
-use Rattle.std.proofs.Common.{◌≡◌, ℕ, ◌≤◌, List, [], ◌∷◌, get_or, Ok, Err, Result, sym, refl, ap, ◌∙◌, arith}
+use Rattle.std.proofs.Common.{◌≡◌, ℕ, ◌≤◌, List, [], ◌∷◌, get_or, Ok, Err, sym, refl, ap, ◌∙◌, arith}
 use Rattle.umem.specs.declared.cause.Cause.{Cause}
 use Rattle.umem.specs.declared.cause.Cause.TheVariants.{DeviceDeaf, NoFillFrame, ReceiveFull, ReservedDestination, OwnPort, NoCopyFrame, SendRingFull}
 use Rattle.umem.specs.declared.refusal.Refusal.{Refusal}
 use Rattle.umem.specs.declared.refusal.Refusal.TheVariants.{NoSuchPort, WrongMemorySize, WrongPacketLength, HandleNotOut, UnfitSetup, PortNotFresh, PoolEmpty, FillFull, SendFull, NothingReceived, NothingToSend, NothingCompleted, LogFull, Stuck, CompletionFull, OutsideSpan, NotATrace, UnfitEntry, ShortBuffer}
 use Rattle.umem.specs.Causes.{cause_number}
 use Rattle.umem.specs.Refusals.{number}
-use Rattle.umem.specs.Refusing.{NoneApplies, Smallest}
+use Rattle.umem.specs.Refusing.{Smallest}
 use Rattle.model.specs.Settled.{Settled, NumbersTell}
 
 -- the refusals by their numbers; no refusal has the numbers 0 and 18

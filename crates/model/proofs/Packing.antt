@@ -1,9 +1,9 @@
 -- What a packed list of parts tells of the parts.
-use Rattle.std.proofs.Common.{◌≡◌, ℕ, zero, suc, ◌+◌, ◌-◌, ◌*◌, ◌/◌, ◌%◌, ◌^◌, ◌<◌, ◌≤◌, List, [], ◌∷◌, ◌++◌, map, length, get_or, take, drop, sym, refl, ap, ◌∙◌, subst, div-lt_iff_lt-mul, pow-suc, arith}
+use Rattle.std.proofs.Common.{◌≡◌, ℕ, zero, suc, ◌+◌, ◌*◌, ◌/◌, ◌%◌, ◌^◌, ◌<◌, ◌≤◌, List, [], ◌∷◌, ◌++◌, map, length, get_or, take, drop, sym, refl, ap, ◌∙◌, subst, div-lt_iff_lt-mul, pow-suc, arith}
 use native.Mathlib.Nat.{mod-add-div}
-use Rattle.std.specs.List.{flat_map, AllByRecursion as All, range_with_len}
-use Rattle.std.proofs.lemmas.List.{append_assoc, append-nil, take_at, take_all, take-append-drop, drop_at, drop_more, length-append, length-map, length-take-le, get_or-map, get_or_default, get_or-take, same_lists}
-use Rattle.std.proofs.lemmas.List.FromFn.{length-map-range_with_len, get_or-map-range_with_len, map-range_with_len_more}
+use Rattle.std.specs.List.{flat_map, AllByRecursion as All}
+use Rattle.std.proofs.lemmas.List.{append_assoc, take_at, take_all, take-append-drop, drop_at, drop_more, length-append, length-map, length-take-le, get_or-map, get_or_default, get_or-take, same_lists}
+use Rattle.std.proofs.lemmas.List.FromFn.{length-map-range_with_len, get_or-map-range_with_len}
 use Rattle.model.specs.Traces.{low_first, value, word, word_at, table, packed, part_at, parts_in, Throughout, RecordLength, Record, laid, record_of, file, Traceable, FilesTell}
 
 -- NUMBERS IN BYTES

@@ -1,5 +1,7 @@
 // What the product is, as definitions and theorems. Each function here only bears a theorem, so that the check asks for its
 // proof.
+#![tactic(auto)]
+
 ghost use Rattle.model.specs.Settled.{NumbersTell, Settled};
 ghost use Rattle.model.specs.Traces.{FilesTell};
 

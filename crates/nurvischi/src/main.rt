@@ -1,10 +1,13 @@
 // The program: it reads words and files, calls the library, and prints.
+#![tactic(auto)]
+
 mod faults;
 mod hex;
 mod inspect;
 
 use faults::Fault;
 use std::env;
+use std::process::ExitCode;
 
 const HELP: &str =
     "nurvischi inspect TRACE   list the records of a trace file: `N P LENGTH HEX` for each, then `records COUNT`
@@ -13,12 +16,14 @@ nurvischi help            these words
 Numbers are base ten, bytes are hexadecimal pairs. The documents are in the folder docs/ of the repository:
 docs/command-line.md for these words, docs/trace-format.md for trace files, docs/refusals.md for the refusals.";
 
-fn main(rt: HostRuntime) -> Result<(), Fault> {
-    let done = run(&rt);
-    if let Err(fault) = &done {
-        let _ = eprintln!(rt; "nurvischi: {fault}");
+fn main(rt: HostRuntime) -> ExitCode {
+    match run(&rt) {
+        Ok(()) => ExitCode::SUCCESS,
+        Err(fault) => {
+            let _ = eprintln!(rt; "nurvischi: {fault}");
+            ExitCode::FAILURE
+        }
     }
-    done
 }
 
 fn run(rt: &HostRuntime) -> Result<(), Fault> {

@@ -1,4 +1,6 @@
 // The calls of a ring as values, so that any list of them can be run.
+#![tactic(auto)]
+
 ghost use Rattle.std.specs.Prelude.{◌≡◌};
 ghost use Rattle.ring.specs.Shows.{state_of};
 ghost use Rattle.ring_scripts.specs.Scripts.{told, Performs, Continues, Session};

@@ -1,7 +1,7 @@
 -- Pairs that follow one another with no gap.
-use Rattle.std.proofs.Common.{◌≡◌, ℕ, zero, suc, ◌+◌, ◌-◌, ◌*◌, ◌<◌, ◌≤◌, List, [], ◌∷◌, ◌++◌, map, length, get_or, take, drop, sym, refl, ap, ◌∙◌, subst, arith, take-add}
-use Rattle.std.proofs.lemmas.List.{append_assoc, take-take, drop-take, drop-drop, length-take-le, length-drop, take_all}
-use Rattle.model.specs.Traces.{word, table, Throughout, RecordLength}
+use Rattle.std.proofs.Common.{◌≡◌, ℕ, zero, suc, ◌+◌, ◌-◌, ◌*◌, ◌<◌, ◌≤◌, List, [], ◌∷◌, ◌++◌, map, length, get_or, take, drop, sym, refl, ap, arith, take-add}
+use Rattle.std.proofs.lemmas.List.{append_assoc, take-take, drop-take, drop-drop, length-take-le, length-drop}
+use Rattle.model.specs.Traces.{word, table}
 use Rattle.model.proofs.Packing.{all}
 use Rattle.trace.specs.declared.store.Pair.{Pair}
 use Rattle.trace.specs.Pairs.{cut, offset_of, length_of, offsets, rows, Gapless, Sized}

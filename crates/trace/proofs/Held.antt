@@ -5,8 +5,8 @@ use Rattle.std.specs.List.{slice_get}
 use Rattle.std.proofs.lemmas.List.{length-map, length-drop, get_or-map}
 use Rattle.std.proofs.lemmas.List.FromFn.{length-map-range_with_len, get_or-map-range_with_len}
 use Rattle.std.proofs.lemmas.Option.{slice_get-get_or, slice_get_past}
-use Rattle.model.specs.Traces.{Record, laid, record_of, part_at, parts_in, packed, file, word_at, Traceable, Throughout, RecordLength}
-use Rattle.model.proofs.Packing.{Packable, Told, told, all, start, length-packed}
+use Rattle.model.specs.Traces.{Record, laid, record_of, part_at, parts_in, packed, word_at, Traceable, Throughout, RecordLength}
+use Rattle.model.proofs.Packing.{Packable, told, length-packed}
 use Rattle.trace.specs.declared.layout.Record.{Record as View}
 use Rattle.trace.specs.declared.traces.Trace.{Trace}
 use Rattle.trace.specs.Meanings.{meant, records_of, Accepted}

@@ -1,16 +1,15 @@
 -- What always holds of a recording, and that each call keeps it.
-use Rattle.std.proofs.Common.{◌≡◌, ℕ, ◌+◌, ◌-◌, ◌<◌, ◌≤◌, List, [], ◌∷◌, ◌++◌, map, length, get_or, take, drop, set, Ok, Err, Result, sym, refl, ap, ◌∙◌, subst, arith}
+use Rattle.std.proofs.Common.{◌≡◌, ℕ, ◌+◌, List, [], ◌∷◌, ◌++◌, map, length, take, drop, Ok, Err, Result, sym, refl, ap, ◌∙◌, subst, arith}
 use Rattle.std.proofs.lemmas.List.{take-take, take_more_set, take_at, drop-take, length-set, length-map, length-take-le, map_push}
 use Rattle.umem.specs.declared.refusal.Refusal.{Refusal}
-use Rattle.umem.specs.Frames.{PacketLength, written}
-use Rattle.umem.specs.Refusing.{NoneApplies}
+use Rattle.umem.specs.Frames.{PacketLength}
 use Rattle.umem.proofs.Written.{length-written, front_written}
 use Rattle.model.specs.Traces.{Record, laid, record_of, Traceable, RecordLength}
 use Rattle.trace.specs.declared.recording.Recording.{Recording}
 use Rattle.trace.specs.declared.store.Pair.{Pair}
 use Rattle.trace.specs.declared.store.Store.{Store}
 use Rattle.trace.specs.Pairs.{cut, cut_records, Gapless, Sized, Listed}
-use Rattle.trace.specs.Stores.{pairs, held_records, Whole, Room, Same, Added, Adds, Grown, RecordsAdded}
+use Rattle.trace.specs.Stores.{pairs, held_records, Whole, Room, Same, Added, Adds, RecordsAdded}
 use Rattle.trace.proofs.Adding.{served_long, served_room}
 use Rattle.trace.proofs.Chains.{chained, parts_kept, gapless_more}
 use Rattle.trace.proofs.Rows.{listed_fit}

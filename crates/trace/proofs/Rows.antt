@@ -1,9 +1,9 @@
 -- The file of records that are held as pairs and bytes.
-use Rattle.std.proofs.Common.{◌≡◌, ℕ, suc, ◌+◌, ◌-◌, ◌*◌, ◌^◌, ◌<◌, ◌≤◌, List, [], ◌∷◌, ◌++◌, map, length, get_or, take, drop, sym, refl, ap, ◌∙◌, subst, arith}
+use Rattle.std.proofs.Common.{◌≡◌, ℕ, ◌+◌, ◌-◌, ◌*◌, ◌^◌, ◌<◌, ◌≤◌, List, [], ◌∷◌, ◌++◌, map, length, get_or, take, sym, refl, ap, ◌∙◌, subst, arith}
 use Rattle.std.proofs.lemmas.List.{append_assoc, length-append, length-map, get_or-map, length-take-le, take_all, take_more, flat_map_more}
 use Rattle.umem.specs.Frames.{written}
-use Rattle.umem.proofs.Written.{written_more, length-written}
-use Rattle.model.specs.Traces.{record_of, laid, word, table, packed, file, Traceable, Throughout, RecordLength}
+use Rattle.umem.proofs.Written.{written_more}
+use Rattle.model.specs.Traces.{word, table, packed, file, Traceable, Throughout, RecordLength}
 use Rattle.model.proofs.Packing.{all, start}
 use Rattle.trace.specs.declared.store.Pair.{Pair}
 use Rattle.trace.specs.Pairs.{cut, cut_records, rows, Listed}

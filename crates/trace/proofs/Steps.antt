@@ -1,11 +1,10 @@
 -- The steps of reading: what each one finds of the file, and that a file of records passes them all.
-use Rattle.std.proofs.Common.{◌≡◌, ℕ, ◌+◌, ◌-◌, ◌*◌, ◌<◌, ◌≤◌, List, [], ◌∷◌, ◌++◌, map, length, get_or, take, drop, sym, refl, ap, ◌∙◌, subst, ⊎_elim, arith, take-add}
-use Rattle.std.specs.List.{range_with_len}
-use Rattle.std.proofs.lemmas.List.{append-nil, append_assoc, take-take, take_all, take-append-drop, drop-take, drop-drop, length-take-le, length-append, length_push, length-map, length-drop, get_or_append_left, get_or_push}
+use Rattle.std.proofs.Common.{◌≡◌, ℕ, ◌+◌, ◌-◌, ◌*◌, ◌<◌, ◌≤◌, List, [], ◌∷◌, ◌++◌, map, length, take, drop, sym, ap, ◌∙◌, subst, ⊎_elim, arith, take-add}
+use Rattle.std.proofs.lemmas.List.{append-nil, take_all, take-append-drop, drop-drop, length-take-le, length-append, length_push, length-map, length-drop, get_or_append_left, get_or_push}
 use Rattle.std.proofs.lemmas.List.FromFn.{map-range_with_len_more}
 use Rattle.std.proofs.lemmas.Bool.{cases_lt}
 use Rattle.model.specs.Traces.{Record, Traceable, Throughout, RecordLength, laid, file, word, word_at, table, packed, part_at, parts_in}
-use Rattle.model.proofs.Packing.{Packable, Told, told, all, start, packable, all_append, table_append, length-packed, packed_count, parts_back, count_back}
+use Rattle.model.proofs.Packing.{told, all, start, packable, all_append, table_append, length-packed, parts_back, count_back}
 use Rattle.trace.specs.Reading.{NoRecords, Headed, Right}
 use Rattle.trace.proofs.Held.{length-parts_in}
 

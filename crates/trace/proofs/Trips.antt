@@ -1,7 +1,6 @@
 -- Reading and writing undo each other.
-use Rattle.std.proofs.Common.{◌≡◌, ℕ, List, length, take, Ok, Err, Result, sym, refl, ap, ◌∙◌, subst, arith}
+use Rattle.std.proofs.Common.{◌≡◌, ℕ, List, length, take, Ok, Err, Result, sym, ap, ◌∙◌, subst, arith}
 use Rattle.umem.specs.declared.refusal.Refusal.{Refusal}
-use Rattle.umem.specs.declared.refusal.Refusal.TheVariants.{NotATrace}
 use Rattle.umem.specs.Refusals.{number}
 use Rattle.umem.specs.Refusing.{NoneApplies, Smallest}
 use Rattle.umem.proofs.Written.{front_written}

@@ -1,5 +1,5 @@
 -- What the values of this crate mean.
-use Rattle.std.specs.Prelude.{◌≡◌, ℕ, List, map}
+use Rattle.std.specs.Prelude.{◌≡◌, List, map}
 use Rattle.model.specs.Traces.{Record, Traceable, record_of, parts_in, file}
 use Rattle.trace.specs.declared.layout.Record.{Record as View}
 use Rattle.trace.specs.declared.traces.Trace.{Trace}

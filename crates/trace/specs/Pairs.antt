@@ -1,5 +1,5 @@
 -- What a table of pairs cuts out of bytes.
-use Rattle.std.specs.Prelude.{◌≡◌, ℕ, ◌+◌, ◌*◌, ◌≤◌, List, [], ◌∷◌, ◌++◌, map, length, take, drop}
+use Rattle.std.specs.Prelude.{◌≡◌, ℕ, ◌+◌, ◌≤◌, List, [], ◌∷◌, ◌++◌, map, length, take, drop}
 use Rattle.std.specs.List.{flat_map}
 use Rattle.model.specs.Traces.{Record, record_of, word, Throughout, RecordLength}
 use Rattle.trace.specs.declared.store.Pair.{Pair}

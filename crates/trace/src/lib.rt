@@ -1,4 +1,6 @@
 // Trace files: a count, a table of offsets and lengths, and the records.
+#![tactic(auto)]
+
 pub mod layout;
 pub mod recording;
 pub mod store;

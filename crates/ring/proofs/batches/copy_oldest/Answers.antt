@@ -11,10 +11,10 @@ loop-place-preserved g c =
     let ok = sound_beside c.args.marks.now xs c.requires.room in
     let q = queue (beside c.args.marks.now xs) in
     let i = c.loop-place.place in
-    let x = c.entry-at.result in
+    let x = c.entry_at.result in
     let long : i < length q = omega (arith, length-queue _ ok) in
     let room : i < length c.loop-place.out = omega arith in
-    let is : x ≡ get_or q i x = c.entry-at.ensures x ∙ ap (λ k. get_or xs k x) c.waiting-slot.ensures.slot ∙ sym (waiting_entry _ ok i x long) in
+    let is : x ≡ get_or q i x = c.entry_at.ensures x ∙ ap (λ k. get_or xs k x) c.waiting_slot.ensures.slot ∙ sym (waiting_entry _ ok i x long) in
     take_more_set c.loop-place.out i x room ∙ ap (λ ys. ys ++ x ∷ []) c.loop-place.invariant ∙ ap (λ y. take i q ++ y ∷ []) is ∙ sym (take_more q i x long)
 
 pub returns : goal.returns

@@ -1,4 +1,4 @@
-use Rattle.std.proofs.Common.{◌≡◌, ℕ, ◌+◌, ◌*◌, List, length, sym, refl, ap, ◌∙◌, arith}
+use Rattle.std.proofs.Common.{ℕ, ◌+◌, ◌*◌, List, length, refl, ap, ◌∙◌, arith}
 use Rattle.umem.specs.Frames.{written}
 use Rattle.trace.specs.Pairs.{rows}
 use Rattle.trace.proofs.Rows.{small, listed_long, three_writes}
@@ -9,8 +9,8 @@ returns-then-buffer-size c =
     let l = listed_long c.args.pairs.now c.args.bytes.now c.requires in
     (((refl, omega arith), λ m a. let e = a.0 in omega arith), refl)
 
-pub put-table-requires : goal.put-table-requires
-put-table-requires c = record { few = c.requires.few; small = small c.args.pairs.now c.args.bytes.now c.requires; room = omega arith }
+pub put_table-requires : goal.put_table-requires
+put_table-requires c = record { few = c.requires.few; small = small c.args.pairs.now c.args.bytes.now c.requires; room = omega arith }
 
 pub returns : goal.returns
 returns c =
@@ -21,7 +21,7 @@ returns c =
       (
         omega arith,
         c.put-2.ensures
-            ∙ ap (λ (xs : List ℕ). written xs first c.args.bytes.now) (c.put-table.ensures ∙ ap (λ (xs : List ℕ). written xs 4 (rows first ps)) (c.put.ensures ∙ ap (written c.args.buffer.now 0) c.word-of.ensures))
+            ∙ ap (λ (xs : List ℕ). written xs first c.args.bytes.now) (c.put_table.ensures ∙ ap (λ (xs : List ℕ). written xs 4 (rows first ps)) (c.put.ensures ∙ ap (written c.args.buffer.now 0) c.word_of.ensures))
             ∙ three_writes ps c.args.bytes.now c.requires c.args.buffer.now (omega arith),
       ),
     )

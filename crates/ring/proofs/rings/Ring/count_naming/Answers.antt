@@ -10,8 +10,8 @@ pub loop-place-preserved : goal.loop-place-preserved
 loop-place-preserved g c =
     let q = queue (state_of c.args.self.now) in
     let i = c.loop-place.place in
-    let e = c.waiting-at-entry.result in
-    let is = ap (λ x. g.E.NamesFrame.names x) (sym (c.waiting-at-entry.ensures e)) ∙ sym c.named-frame.ensures in
+    let e = c.waiting_at-entry.result in
+    let is = ap (λ x. g.E.NamesFrame.names x) (sym (c.waiting_at-entry.ensures e)) ∙ sym c.named-frame.ensures in
     let h : i < length q = omega arith in
     elim c.if-named-frame-frame.branch [
       | then-named-frame-frame w ↦ (

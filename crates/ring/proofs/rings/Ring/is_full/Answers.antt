@@ -9,4 +9,4 @@ returns g c =
     let q = length-queue _ (sound_of r) in
     let d = length-draft _ (sound_of r) in
     let f = r.marks.fits in
-    when_weaker c.is-full.result c.is-full.ensures (λ e. omega arith) (λ l full. omega arith)
+    when_weaker c.is_full.result c.is_full.ensures (λ e. omega arith) (λ l full. omega arith)

@@ -5,16 +5,16 @@ use Rattle.ring.proofs.Single.{inside, pushes}
 use Rattle.ring.proofs.Steps.{sound_of}
 use Rattle.ring.proofs.rings.Ring.push.Goals as goal
 
-pub returns-in-err-put : goal.returns-in-err-put
-returns-in-err-put g c =
+pub returns-in_err-put : goal.returns-in_err-put
+returns-in_err-put g c =
     let s = c.args.self.now in
     let none : s.marks.reserved ≡ 0 = omega arith in
-    absurd (inside (state_of s) (state_of c.reserve_count.new.self) c.reserve_count.result (sound_of s) none c.if-count-eq0.false c.reserve_count.ensures c.in-err-put.ensures.0.0.1)
+    absurd (inside (state_of s) (state_of c.reserve_count.new.self) c.reserve_count.result (sound_of s) none c.if-count-eq0.false c.reserve_count.ensures c.in_err-put.ensures.0.0.1)
 
 pub returns : goal.returns
 returns g c =
     let s = c.args.self.now in
     let none : s.marks.reserved ≡ 0 = omega arith in
     pushes (state_of s) (state_of c.reserve_count.new.self) c.reserve_count.result (sound_of s) none c.if-count-eq0.false c.reserve_count.ensures
-    (state_of c.put.new.self) c.args.entry (sound_of c.reserve_count.new.self) c.in-ok-put.ensures.1
+    (state_of c.put.new.self) c.args.entry (sound_of c.reserve_count.new.self) c.in_ok-put.ensures.1
     c.submit.result (state_of c.submit.new.self) c.submit.ensures

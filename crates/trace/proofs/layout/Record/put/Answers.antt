@@ -1,4 +1,4 @@
-use Rattle.std.proofs.Common.{ℕ, ◌+◌, List, [], ◌∷◌, refl, ap, ◌∙◌, arith}
+use Rattle.std.proofs.Common.{ℕ, ◌+◌, List, [], ◌∷◌, ap, ◌∙◌, arith}
 use Rattle.umem.specs.Frames.{written}
 use Rattle.umem.proofs.Written.{written_more}
 use Rattle.trace.proofs.layout.Record.put.Goals as goal

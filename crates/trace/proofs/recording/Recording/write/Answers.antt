@@ -8,5 +8,5 @@ returns c =
     let s = c.args.self.now in
     record {
       writes = c.write.ensures;
-      reads_back_of = reads_back_of (held_records s.store) c.args.buffer.now c.write.new.buffer c.write.result (held_fit s.store (whole_of s)) c.write.ensures;
+      reads_back = reads_back_of (held_records s.store) c.args.buffer.now c.write.new.buffer c.write.result (held_fit s.store (whole_of s)) c.write.ensures;
     }

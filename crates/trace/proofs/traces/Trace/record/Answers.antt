@@ -11,4 +11,4 @@ returns-then-self-offset c whole =
     absurd (omega arith)
 
 pub returns : goal.returns
-returns c = shown c.args.self.now c.args.i c.word_at_offset.result c.word_at_length.result c.parse.result c.if-i-self.false c.word_at_offset.ensures.value c.word_at_length.ensures.value c.parse.ensures
+returns c = shown c.args.self.now c.args.i c.word_at-offset.result c.word_at-length.result c.parse.result c.if-i-self.false c.word_at-offset.ensures.value c.word_at-length.ensures.value c.parse.ensures

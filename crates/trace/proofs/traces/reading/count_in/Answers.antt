@@ -5,5 +5,5 @@ use Rattle.trace.proofs.traces.reading.count_in.Goals as goal
 pub returns-then-file-lt4 : goal.returns-then-file-lt4
 returns-then-file-lt4 c = (refl, too_short c.args.file.now c.if-file-lt4.true)
 
-pub returns-then-count-gt-MAX-RECORDS : goal.returns-then-count-gt-MAX-RECORDS
-returns-then-count-gt-MAX-RECORDS c = (refl, wrong_head c.args.file.now (λ few long. grind arith))
+pub returns-then-count-gt-MAX_RECORDS : goal.returns-then-count-gt-MAX_RECORDS
+returns-then-count-gt-MAX_RECORDS c = (refl, wrong_head c.args.file.now (λ few long. grind arith))
