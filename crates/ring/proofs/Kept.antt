@@ -1,13 +1,13 @@
 -- What holds of every ring, kept by every step.
-use Rattle.std.proofs.Common.{◌≡◌, ℕ, ◌+◌, ◌-◌, ◌%◌, ◌^◌, ◌<◌, ◌≤◌, min, ◌⊎◌, List, length, set, Ok, Err, sym, refl, ap, ◌∙◌, subst, inl, inr, ⊎_elim, arith}
+use Rattle.std.proofs.Common.{◌≡◌, ℕ, ◌+◌, ◌-◌, ◌%◌, ◌^◌, ◌<◌, ◌≤◌, ◌⊎◌, List, length, Ok, Err, sym, refl, ap, ◌∙◌, subst, inl, inr, ⊎_elim, arith}
 use Rattle.std.proofs.lemmas.List.{length-set}
 use Rattle.ring.specs.Wrap.{past, ahead}
-use Rattle.ring.specs.Marks.{Numbers, fresh_numbers, waiting, free, with_reserved, with_peeked, produced, consumed}
+use Rattle.ring.specs.Marks.{Numbers, waiting, with_reserved, with_peeked, produced, consumed}
 use Rattle.ring.specs.Rings.{State, Made}
 use Rattle.ring.specs.Runs.{Event, Reserve, Put, Submit, Withdraw, Peek, Get, Cancel, Release, Push, Take, Step}
 use Rattle.ring.proofs.Inside.{inside_count, inside_room}
 use Rattle.ring.proofs.Powers.{size_whole, size_small}
-use Rattle.ring.proofs.Steps.{Sound, same_state, granted}
+use Rattle.ring.proofs.Steps.{Sound, granted}
 
 -- other marks and slots, at the same size
 sound_at :

@@ -1,9 +1,9 @@
 -- One entry at a time, from the calls that it is made of.
-use Rattle.std.proofs.Common.{◌≡◌, ℕ, ◌+◌, ◌-◌, ◌%◌, ◌<◌, ◌≤◌, List, [], ◌∷◌, ◌++◌, length, get_or, take, drop, set, Ok, Err, Result, sym, refl, ap, ◌∙◌, ⊎_elim, arith}
+use Rattle.std.proofs.Common.{◌≡◌, ℕ, ◌+◌, ◌-◌, ◌%◌, ◌<◌, ◌≤◌, List, [], ◌∷◌, ◌++◌, length, get_or, take, drop, set, Ok, Err, Result, sym, ap, ◌∙◌, ⊎_elim, arith}
 use Rattle.std.proofs.lemmas.List.{take_more_set, take_more, nil_from_length, length-drop, length-set}
 use Rattle.std.proofs.lemmas.Bool.{cases_lt}
 use Rattle.umem.specs.declared.refusal.Refusal.{Refusal}
-use Rattle.ring.specs.Wrap.{past, ahead}
+use Rattle.ring.specs.Wrap.{ahead}
 use Rattle.ring.specs.Marks.{Numbers, waiting, free, with_reserved, produced, consumed}
 use Rattle.ring.specs.Rings.{State, queue, draft, Reserved, Written, Submitted, RingSubmits, Room, Pushed, Pushes, Taken}
 use Rattle.ring.proofs.Steps.{Sound, length-queue, length-draft, taken}

@@ -1,10 +1,10 @@
 -- First in, first out, over every run: by induction on the past, a step at a time.
 use Rattle.std.proofs.Common.{◌≡◌, ℕ, ◌+◌, ◌-◌, ◌%◌, ◌^◌, ◌<◌, ◌≤◌, List, [], ◌∷◌, ◌++◌, length, get_or, take, drop, set, Ok, Err, sym, refl, ap, ◌∙◌, subst, arith}
-use Rattle.std.proofs.lemmas.List.{take-append-drop, take_at, drop_at, drop-drop, drop-append-le, get_or-drop, length-append, length-drop, length_push, length-take-le}
+use Rattle.std.proofs.lemmas.List.{take-append-drop, take_at, drop_at, drop-drop, drop-append-le, get_or-drop, length-append, length-drop, length-take-le}
 use Rattle.ring.specs.Wrap.{past, ahead}
 use Rattle.ring.specs.Spans.{span}
 use Rattle.ring.specs.Sizes.{SizeFor}
-use Rattle.ring.specs.Marks.{Numbers, waiting, with_reserved, produced, consumed}
+use Rattle.ring.specs.Marks.{Numbers, waiting, consumed}
 use Rattle.ring.specs.Rings.{State, queue, draft, Made}
 use Rattle.ring.specs.Runs.{Event, Reserve, Put, Submit, Withdraw, Peek, Get, Cancel, Release, Push, Take, Step, Past, new, more, History, history, after, producer_at, consumer_at, Fifo, Answered, AllAnswered, EveryRun}
 use Rattle.ring.proofs.Inside.{inside_count, inside_mark}

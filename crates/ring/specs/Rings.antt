@@ -2,7 +2,7 @@
 use Rattle.std.specs.Prelude.{◌≡◌, ℕ, ◌+◌, ◌-◌, ◌%◌, ◌<◌, ◌≤◌, List, [], ◌∷◌, ◌++◌, length, take, drop, Some, None, Ok, Err, Option, Result, OnErr, slice_index_or, slice_set}
 use Rattle.umem.specs.declared.refusal.Refusal.{Refusal}
 use Rattle.umem.specs.Refusing.{Answers}
-use Rattle.ring.specs.Wrap.{past, ahead}
+use Rattle.ring.specs.Wrap.{ahead}
 use Rattle.ring.specs.Spans.{span}
 use Rattle.ring.specs.Sizes.{SizeFor}
 use Rattle.ring.specs.Marks.{Numbers, fresh_numbers, waiting, with_reserved, with_peeked, produced, consumed, Outside, Reserves, Peeks}

@@ -4,7 +4,6 @@ use Rattle.std.proofs.lemmas.List.{append-nil, take_more, take_all, reverse-appe
 use Rattle.umem.specs.declared.refusal.Refusal.TheVariants.{OutsideSpan}
 use Rattle.ring_scripts.specs.declared.Call.{Call}
 use Rattle.ring_scripts.specs.declared.Answer.{Answer}
-use Rattle.ring.specs.Marks.{waiting}
 use Rattle.ring.specs.Rings.{State, queue, Made, Taken}
 use Rattle.ring.specs.Runs.{Event, Take, Step, Past, new, more}
 use Rattle.ring_scripts.specs.Scripts.{Of, answer_of, Performs, EachOf, Continues, Session}

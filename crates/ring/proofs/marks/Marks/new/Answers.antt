@@ -7,4 +7,12 @@ invariant_of-result c =
     let n = c.args.entries in
     let s = c.size_for.result in
     let z = c.size_for.ensures in
-    (omega arith, (omega arith, (size_small n s z, (size_whole n s z, (size_masked n s z, (omega arith, (omega arith, tt)))))))
+    record {
+      fits = omega arith;
+      seen = omega arith;
+      small = size_small n s z;
+      whole = size_whole n s z;
+      masked = size_masked n s z;
+      pbits = omega arith;
+      cbits = omega arith;
+    }

@@ -4,5 +4,5 @@ use Rattle.ring.proofs.rings.Ring.new.Goals as goal
 
 pub returns : goal.returns
 returns g c =
-    let lists = fresh_lists _ (sound_beside c.new_marks.result c.args.slots.now c.new_marks.ensures.size.held) c.args.start c.new_marks.ensures.fresh in
-    record { size = c.new_marks.ensures.size; fresh = c.new_marks.ensures.fresh; memory = refl; waits = lists.0; drafts = lists.1 }
+    let lists = fresh_lists _ (sound_beside c.new-marks.result c.args.slots.now c.new-marks.ensures.size.held) c.args.start c.new-marks.ensures.fresh in
+    record { size = c.new-marks.ensures.size; fresh = c.new-marks.ensures.fresh; memory = refl; waits = lists.0; drafts = lists.1 }

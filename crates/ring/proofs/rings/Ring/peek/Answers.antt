@@ -1,5 +1,4 @@
 use Rattle.std.proofs.Common.{refl}
-use Rattle.ring.specs.Shows.{state_of}
 use Rattle.ring.proofs.Steps.{sound_of, peeked}
 use Rattle.ring.proofs.rings.Ring.peek.Goals as goal
 

@@ -1,5 +1,4 @@
-use Rattle.std.proofs.Common.{◌≡◌, ◌<◌, get_or, sym, ap, ◌∙◌, arith}
-use Rattle.ring.specs.Marks.{numbers, waiting}
+use Rattle.std.proofs.Common.{get_or, sym, ap, ◌∙◌, arith}
 use Rattle.ring.proofs.Steps.{sound_of, length-queue, waiting_entry}
 use Rattle.ring.proofs.rings.Ring.waiting_at.Goals as goal
 
