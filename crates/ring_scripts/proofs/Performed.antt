@@ -1,18 +1,30 @@
 -- A call that was made, under another name for the call or the answer.
-use Rattle.std.proofs.Common.{◌≡◌, ℕ, ◌+◌, ◌^◌, ◌<◌, ◌≤◌, List, [], ◌∷◌, ◌++◌, reverse, length, get_or, take, Ok, Err, sym, refl, ap, ◌∙◌, subst, arith}
+use Rattle.std.proofs.Common.{◌≡◌, ℕ, ◌+◌, ◌^◌, ◌<◌, ◌≤◌, List, [], ◌∷◌, ◌++◌, reverse, length, get_or, take, Some, None, Ok, Err, Option, Result, sym, refl, ap, ◌∙◌, subst, arith}
+use Rattle.std.specs.Result.{MatchResult, IsOkAnd, result_map_both}
 use Rattle.std.proofs.lemmas.List.{append-nil, take_more, take_all, reverse-append}
+use Rattle.umem.specs.declared.refusal.Refusal.{Refusal}
 use Rattle.umem.specs.declared.refusal.Refusal.TheVariants.{OutsideSpan}
 use Rattle.ring_scripts.specs.declared.Call.{Call}
 use Rattle.ring_scripts.specs.declared.Answer.{Answer}
-use Rattle.ring.specs.Rings.{State, queue, Made, Taken}
+use Rattle.ring_scripts.specs.declared.Answer.TheVariants.{Popped}
+use Rattle.ring.specs.Rings.{State, queue, Made, Taken, Pops}
 use Rattle.ring.specs.Runs.{Event, Take, Step, Past, new, more}
 use Rattle.ring_scripts.specs.Scripts.{Of, answer_of, Performs, EachOf, Continues, Session}
 use Rattle.ring.proofs.Steps.{Sound, length-queue}
 use Rattle.ring.proofs.Theorem.{every_run}
 
 pub performs :
-    {E : Type 0} (s t : State E) (c d : Call E) (a : Answer E) (e : Event E) → c ≡ d → Step s e t → Of d e → a ≡ answer_of e → Performs s c a t
+    {E : Type 0} (s t : State E) (c d : Call E) (a : Result (Answer E) Refusal) (e : Event E) → c ≡ d → Step s e t → Of d e → a ≡ answer_of e → Performs s c a t
 performs s t c d a e is step of told = (e, step, subst (λ (x : Call _). Of x e) (sym is) of, sym told)
+
+-- what `map` answers
+pub mapped :
+    {A B X : Type 0} (f : A → B) (r : Result A X) (s : Result B X) →
+    MatchResult r (λ x. IsOkAnd s (λ b. b ≡ f x)) (λ e. s ≡ Err e) →
+    s ≡ result_map_both f (λ x. x) r
+mapped f (Ok x) (Ok b) h = ap Ok h
+mapped f (Ok x) (Err e) h = absurd h
+mapped f (Err e) s h = h
 
 -- a pop is a take of one
 pub one_taken : {E : Type 0} (s t : State E) (e : E) → Sound s → Taken s (e ∷ []) t → Step s (Take 1 (Ok (e ∷ []))) t
@@ -27,9 +39,15 @@ none_taken s t ok h =
     let none = ap length h.0 in
     (((refl, omega arith), λ m x. omega (arith, x.0)), h.1)
 
+pub popped_step :
+    {E : Type 0} (s : State E) (o : Option E) (t : State E) → Sound s → Pops s o t
+    → (r : Result (List E) Refusal) × Step s (Take 1 r) t × (Ok (Popped o) ≡ answer_of (Take 1 r))
+popped_step s (Some e) t ok h = (Ok (e ∷ []), one_taken s t e ok h, refl)
+popped_step s None t ok h = (Err OutsideSpan, none_taken s t ok h, refl)
+
 -- one call more of a run
 pub continues_more :
-    {E : Type 0} (s t u : State E) (calls : List (Call E)) (i : ℕ) (c : Call E) (a : Answer E) → i < length calls → c ≡ get_or calls i c
+    {E : Type 0} (s t u : State E) (calls : List (Call E)) (i : ℕ) (c : Call E) (a : Result (Answer E) Refusal) → i < length calls → c ≡ get_or calls i c
     → Continues s (take i calls) t → Performs t c a u → Continues s (take (i + 1) calls) u
 continues_more s t u calls i c a l at h made z start slots es p =
     let before = h z start slots es p in

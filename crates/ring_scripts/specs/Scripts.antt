@@ -1,10 +1,11 @@
 -- Calls as values, and lists of them.
-use Rattle.std.specs.Prelude.{◌≡◌, ℕ, List, [], ◌∷◌, ◌++◌, reverse, length, Ok, Err, Result}
+use Rattle.std.specs.Prelude.{◌≡◌, ℕ, List, [], ◌∷◌, ◌++◌, reverse, length, Some, None, Ok, Err, Option, Result}
+use Rattle.std.specs.Result.{result_and, result_map_both}
 use Rattle.umem.specs.declared.refusal.Refusal.{Refusal}
 use Rattle.ring_scripts.specs.declared.Call.{Call}
 use Rattle.ring_scripts.specs.declared.Call.TheVariants as call
 use Rattle.ring_scripts.specs.declared.Answer.{Answer}
-use Rattle.ring_scripts.specs.declared.Answer.TheVariants.{Span, Done, Entry, Nothing, Refused}
+use Rattle.ring_scripts.specs.declared.Answer.TheVariants.{Span, Done, Entry, Popped}
 use Rattle.ring.specs.Rings.{State, queue}
 use Rattle.ring.specs.Runs.{Event, Reserve, Put, Submit, Withdraw, Peek, Get, Cancel, Release, Push, Take, Step, Past, history, Fifo, AllAnswered}
 
@@ -21,35 +22,27 @@ Of (call.Release n) e = (r : Result (Unit {0}) Refusal) × (e ≡ Release n r)
 Of (call.Push x) e = (r : Result (Unit {0}) Refusal) × (e ≡ Push x r)
 Of {E} call.Pop e = (r : Result (List E) Refusal) × (e ≡ Take 1 r)
 
-abbrev pub told : {E : Type 0} → Result (Unit {0}) Refusal → Answer E
-told (Ok _) = Done
-told (Err x) = Refused x
+-- the oldest entry taken, or none
+abbrev pub popped : {E : Type 0} → Result (List E) Refusal → Option E
+popped (Ok []) = None
+popped (Ok (e ∷ es)) = Some e
+popped (Err x) = None
 
-abbrev pub entry_told : {E : Type 0} → Result E Refusal → Answer E
-entry_told (Ok e) = Entry e
-entry_told (Err x) = Refused x
-
--- the oldest entry taken, or nothing
-abbrev pub taken_told : {E : Type 0} → Result (List E) Refusal → Answer E
-taken_told (Ok []) = Nothing
-taken_told (Ok (e ∷ es)) = Entry e
-taken_told (Err x) = Nothing
-
--- the answer that an event has
-abbrev pub answer_of : {E : Type 0} → Event E → Answer E
-answer_of (Reserve n r) = Span r.0 r.1
-answer_of (Put mark e r) = told r
-answer_of (Submit n r) = told r
-answer_of (Withdraw n r) = told r
-answer_of (Peek n r) = Span r.0 r.1
-answer_of (Get mark r) = entry_told r
-answer_of (Cancel n r) = told r
-answer_of (Release n r) = told r
-answer_of (Push e r) = told r
-answer_of (Take n r) = taken_told r
+-- the answer that an event has: what was served, or the refusal
+abbrev pub answer_of : {E : Type 0} → Event E → Result (Answer E) Refusal
+answer_of (Reserve n r) = Ok (Span r.0 r.1)
+answer_of (Put mark e r) = result_and r (Ok Done)
+answer_of (Submit n r) = result_and r (Ok Done)
+answer_of (Withdraw n r) = result_and r (Ok Done)
+answer_of (Peek n r) = Ok (Span r.0 r.1)
+answer_of (Get mark r) = result_map_both Entry (λ x. x) r
+answer_of (Cancel n r) = result_and r (Ok Done)
+answer_of (Release n r) = result_and r (Ok Done)
+answer_of (Push e r) = result_and r (Ok Done)
+answer_of (Take n r) = Ok (Popped (popped r))
 
 -- a call is made: the step is that of some event of this call with this answer
-abbrev pub Performs : {E : Type 0} → State E → Call E → Answer E → State E → Type 0
+abbrev pub Performs : {E : Type 0} → State E → Call E → Result (Answer E) Refusal → State E → Type 0
 Performs {E} s c a t = (e : Event E) × Step s e t × Of c e × (answer_of e ≡ a)
 
 -- the events are answers to these calls, one to each

@@ -3,7 +3,7 @@
 
 ghost use Rattle.std.specs.Prelude.{◌≡◌};
 ghost use Rattle.ring.specs.Shows.{state_of};
-ghost use Rattle.ring_scripts.specs.Scripts.{told, Performs, Continues, Session};
+ghost use Rattle.ring_scripts.specs.Scripts.{Performs, Continues, Session};
 
 use ring::Ring;
 use umem::refusal::Refusal;
@@ -26,38 +26,37 @@ pub enum Call<E> {
     Pop,
 }
 
-// What a call answers.
+// What a call that is served answers.
 #[derive(Clone, Copy, PartialEq, Debug)]
 pub enum Answer<E> {
     // How many, and the mark of the first.
     Span(u32, u32),
     Done,
     Entry(E),
-    Nothing,
-    Refused(Refusal),
+    Popped(Option<E>),
 }
 
 // Makes one call.
-pub fn perform<E: Copy>(ring: &mut Ring<E>, call: Call<E>) -> Answer<E>
+pub fn perform<E: Copy>(ring: &mut Ring<E>, call: Call<E>) -> Result<Answer<E>, Refusal>
     ensures { Performs (state_of ring.old) call result (state_of ring.new) }
 {
     match call {
-        Call::Reserve(n) => span(ring.reserve(n)),
-        Call::Put(mark, entry) => done(ring.put(mark, entry)),
-        Call::Submit(n) => done(ring.submit(n)),
-        Call::Withdraw(n) => done(ring.withdraw(n)),
-        Call::Peek(n) => span(ring.peek(n)),
-        Call::Get(mark) => match ring.get(mark) {
-            Ok(entry) => Answer::Entry(entry),
-            Err(refusal) => Answer::Refused(refusal),
-        },
-        Call::Cancel(n) => done(ring.cancel(n)),
-        Call::Release(n) => done(ring.release(n)),
-        Call::Push(entry) => done(ring.push(entry)),
-        Call::Pop => match ring.pop() {
-            Some(entry) => Answer::Entry(entry),
-            None => Answer::Nothing,
-        },
+        Call::Reserve(n) => {
+            let (count, first) = ring.reserve(n);
+            Ok(Answer::Span(count, first))
+        }
+        Call::Put(mark, entry) => ring.put(mark, entry).and(Ok(Answer::Done)),
+        Call::Submit(n) => ring.submit(n).and(Ok(Answer::Done)),
+        Call::Withdraw(n) => ring.withdraw(n).and(Ok(Answer::Done)),
+        Call::Peek(n) => {
+            let (count, first) = ring.peek(n);
+            Ok(Answer::Span(count, first))
+        }
+        Call::Get(mark) => ring.get(mark).map(Answer::Entry),
+        Call::Cancel(n) => ring.cancel(n).and(Ok(Answer::Done)),
+        Call::Release(n) => ring.release(n).and(Ok(Answer::Done)),
+        Call::Push(entry) => ring.push(entry).and(Ok(Answer::Done)),
+        Call::Pop => Ok(Answer::Popped(ring.pop())),
     }
 }
 
@@ -78,20 +77,4 @@ pub fn session<E: Copy>(slots: &mut [E], start: u32, calls: &[Call<E>]) -> u32
     let mut ring = Ring::new(slots, start);
     run(&mut ring, calls);
     ring.len()
-}
-
-fn span<E>(pair: (u32, u32)) -> Answer<E>
-    ensures { result ≡ Answer.Span pair.0 pair.1 }
-{
-    let (count, first) = pair;
-    Answer::Span(count, first)
-}
-
-fn done<E>(res: Result<(), Refusal>) -> Answer<E>
-    ensures { result ≡ told res }
-{
-    match res {
-        Ok(()) => Answer::Done,
-        Err(refusal) => Answer::Refused(refusal),
-    }
 }

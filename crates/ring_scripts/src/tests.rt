@@ -7,10 +7,13 @@ use std::test::Fail;
 use umem::descriptor::Descriptor;
 use umem::refusal::Refusal;
 
-const OUTSIDE: Answer<u64> = Answer::Refused(Refusal::OutsideSpan);
+// What a call answers.
+type Answered = Result<Answer<u64>, Refusal>;
+
+const OUTSIDE: Answered = Err(Refusal::OutsideSpan);
 
 // Makes the calls on a new ring, and compares each answer.
-fn answers(rt: &impl Abort, slots: &mut [u64], start: u32, script: &[(Call<u64>, Answer<u64>)]) {
+fn answers(rt: &impl Abort, slots: &mut [u64], start: u32, script: &[(Call<u64>, Answered)]) {
     let mut ring = Ring::new(slots, start);
     for (call, answer) in script {
         assert_eq!(rt; perform(&mut ring, *call), *answer);
@@ -44,23 +47,23 @@ fn worked_values(rt: HostRuntime) {
         &mut slots,
         4294967294,
         &[
-            (Call::Reserve(3), Answer::Span(3, 4294967294)),
-            (Call::Put(4294967294, 10), Answer::Done),
-            (Call::Put(4294967295, 11), Answer::Done),
-            (Call::Put(0, 12), Answer::Done),
+            (Call::Reserve(3), Ok(Answer::Span(3, 4294967294))),
+            (Call::Put(4294967294, 10), Ok(Answer::Done)),
+            (Call::Put(4294967295, 11), Ok(Answer::Done)),
+            (Call::Put(0, 12), Ok(Answer::Done)),
             (Call::Put(1, 13), OUTSIDE),
-            (Call::Submit(3), Answer::Done),
-            (Call::Reserve(0), Answer::Span(0, 1)),
-            (Call::Reserve(2), Answer::Span(0, 1)),
-            (Call::Peek(5), Answer::Span(3, 4294967294)),
-            (Call::Get(4294967295), Answer::Entry(11)),
-            (Call::Get(0), Answer::Entry(12)),
-            (Call::Release(2), Answer::Done),
-            (Call::Cancel(1), Answer::Done),
-            (Call::Peek(0), Answer::Span(0, 0)),
+            (Call::Submit(3), Ok(Answer::Done)),
+            (Call::Reserve(0), Ok(Answer::Span(0, 1))),
+            (Call::Reserve(2), Ok(Answer::Span(0, 1))),
+            (Call::Peek(5), Ok(Answer::Span(3, 4294967294))),
+            (Call::Get(4294967295), Ok(Answer::Entry(11))),
+            (Call::Get(0), Ok(Answer::Entry(12))),
+            (Call::Release(2), Ok(Answer::Done)),
+            (Call::Cancel(1), Ok(Answer::Done)),
+            (Call::Peek(0), Ok(Answer::Span(0, 0))),
             (Call::Get(4294967295), OUTSIDE),
-            (Call::Pop, Answer::Entry(12)),
-            (Call::Pop, Answer::Nothing),
+            (Call::Pop, Ok(Answer::Popped(Some(12)))),
+            (Call::Pop, Ok(Answer::Popped(None))),
         ],
     );
 }
@@ -74,11 +77,11 @@ fn size_none(rt: HostRuntime) {
         &mut slots,
         5,
         &[
-            (Call::Reserve(0), Answer::Span(0, 5)),
-            (Call::Reserve(1), Answer::Span(0, 5)),
-            (Call::Peek(1), Answer::Span(0, 5)),
+            (Call::Reserve(0), Ok(Answer::Span(0, 5))),
+            (Call::Reserve(1), Ok(Answer::Span(0, 5))),
+            (Call::Peek(1), Ok(Answer::Span(0, 5))),
             (Call::Push(1), OUTSIDE),
-            (Call::Pop, Answer::Nothing),
+            (Call::Pop, Ok(Answer::Popped(None))),
         ],
     );
     let ring = Ring::new(&mut slots, 5);
@@ -96,26 +99,26 @@ fn spans(rt: HostRuntime) {
         &mut slots,
         0,
         &[
-            (Call::Reserve(3), Answer::Span(3, 0)),
-            (Call::Reserve(2), Answer::Span(0, 3)),
+            (Call::Reserve(3), Ok(Answer::Span(3, 0))),
+            (Call::Reserve(2), Ok(Answer::Span(0, 3))),
             (Call::Submit(4), OUTSIDE),
             (Call::Withdraw(4), OUTSIDE),
             (Call::Push(9), OUTSIDE),
-            (Call::Put(1, 31), Answer::Done),
-            (Call::Withdraw(1), Answer::Done),
+            (Call::Put(1, 31), Ok(Answer::Done)),
+            (Call::Withdraw(1), Ok(Answer::Done)),
             (Call::Put(2, 32), OUTSIDE),
-            (Call::Submit(2), Answer::Done),
-            (Call::Peek(1), Answer::Span(1, 0)),
+            (Call::Submit(2), Ok(Answer::Done)),
+            (Call::Peek(1), Ok(Answer::Span(1, 0))),
             (Call::Get(1), OUTSIDE),
             (Call::Cancel(2), OUTSIDE),
             (Call::Release(2), OUTSIDE),
-            (Call::Get(0), Answer::Entry(20)),
-            (Call::Peek(9), Answer::Span(1, 1)),
-            (Call::Get(1), Answer::Entry(31)),
-            (Call::Pop, Answer::Entry(20)),
+            (Call::Get(0), Ok(Answer::Entry(20))),
+            (Call::Peek(9), Ok(Answer::Span(1, 1))),
+            (Call::Get(1), Ok(Answer::Entry(31))),
+            (Call::Pop, Ok(Answer::Popped(Some(20)))),
             (Call::Release(2), OUTSIDE),
-            (Call::Get(1), Answer::Entry(31)),
-            (Call::Release(1), Answer::Done),
+            (Call::Get(1), Ok(Answer::Entry(31))),
+            (Call::Release(1), Ok(Answer::Done)),
         ],
     );
     assert!(rt; slots == [20, 31, 22, 23, 24]);
