@@ -9,10 +9,8 @@ pub fn run(rt: &HostRuntime, path: String) -> Result<(), Fault> {
         Ok(file) => file,
         Err(why) => return Err(Fault::Unreadable(path, why)),
     };
-    match Trace::read(file.as_slice()) {
-        Ok(trace) => list(rt, trace),
-        Err(refusal) => Err(Fault::Refused(path, refusal)),
-    }
+    let trace = Trace::read(file.as_slice()).map_err(|refusal| Fault::Refused(path, refusal))?;
+    list(rt, trace)
 }
 
 fn list(rt: &HostRuntime, trace: Trace) -> Result<(), Fault> {
