@@ -1,13 +1,8 @@
-use Rattle.std.proofs.Common.{◌<◌, ◌≤◌, length, arith}
-use Rattle.ring_scripts.proofs.Performed.{continues_more, continues_all}
+use Rattle.std.proofs.Common.{◌<◌, length, arith}
+use Rattle.ring_scripts.proofs.Performed.{continues_more}
 use Rattle.ring_scripts.proofs.run.Goals as goal
 
 pub loop-call-preserved : goal.loop-call-preserved
 loop-call-preserved g c =
     let l : c.loop-call.call-index < length c.args.calls.now = omega arith in
     continues_more _ _ _ c.args.calls.now c.loop-call.call-index c.call-item.result c.perform.result l c.call-item.is c.loop-call.invariant c.perform.ensures
-
-pub returns : goal.returns
-returns g c =
-    let l : length c.args.calls.now ≤ c.loop-call.call-index = omega arith in
-    continues_all _ _ c.args.calls.now c.loop-call.call-index l c.loop-call.invariant
