@@ -1,7 +1,7 @@
 -- A call that was made, under another name for the call or the answer.
-use Rattle.std.proofs.Common.{◌≡◌, ℕ, ◌+◌, ◌^◌, ◌<◌, ◌≤◌, List, [], ◌∷◌, ◌++◌, reverse, length, get_or, take, Some, None, Ok, Err, Option, Result, sym, refl, ap, ◌∙◌, subst, arith}
+use Rattle.std.proofs.Common.{◌≡◌, ℕ, ◌+◌, ◌^◌, ◌<◌, List, [], ◌∷◌, ◌++◌, reverse, length, get_or, take, Some, None, Ok, Err, Option, Result, sym, refl, ap, ◌∙◌, subst, arith}
 use Rattle.std.specs.Result.{MatchResult, IsOkAnd, result_map_both}
-use Rattle.std.proofs.lemmas.List.{append-nil, take_more, take_all, reverse-append}
+use Rattle.std.proofs.lemmas.List.{append-nil, take_more, reverse-append}
 use Rattle.umem.specs.declared.refusal.Refusal.{Refusal}
 use Rattle.umem.specs.declared.refusal.Refusal.TheVariants.{OutsideSpan}
 use Rattle.ring_scripts.specs.declared.Call.{Call}
@@ -57,9 +57,6 @@ continues_more s t u calls i c a l at h made z start slots es p =
       more made.0 before.1 made.1,
       subst (λ (cs : List (Call _)). EachOf cs (made.0 ∷ before.0)) longer (made.2, before.2),
     )
-
-pub continues_all : {E : Type 0} (s t : State E) (calls : List (Call E)) (i : ℕ) → length calls ≤ i → Continues s (take i calls) t → Continues s calls t
-continues_all s t calls i l h = subst (λ (cs : List (Call _)). Continues s cs t) (take_all i calls l) h
 
 -- a new ring has a past, and so have the calls that follow
 pub session_of :
