@@ -1,12 +1,12 @@
 -- One entry at a time, from the calls that it is made of.
-use Rattle.std.proofs.Common.{◌≡◌, ℕ, ◌+◌, ◌-◌, ◌%◌, ◌<◌, ◌≤◌, List, [], ◌∷◌, ◌++◌, length, get_or, take, drop, set, Ok, Err, Result, sym, ap, ◌∙◌, ⊎_elim, arith}
-use Rattle.std.proofs.lemmas.List.{take_more_set, take_more, nil_from_length, length-drop, length-set}
+use Rattle.std.proofs.Common.{◌≡◌, ℕ, ◌+◌, ◌-◌, ◌%◌, ◌<◌, ◌≤◌, List, [], ◌∷◌, ◌++◌, length, take, drop, set, Ok, Err, Result, sym, ap, ◌∙◌, ⊎_elim, arith}
+use Rattle.std.proofs.lemmas.List.{take_more_set, nil_from_length, length-drop, length-set}
 use Rattle.std.proofs.lemmas.Bool.{cases_lt}
 use Rattle.umem.specs.declared.refusal.Refusal.{Refusal}
 use Rattle.ring.specs.Wrap.{ahead}
-use Rattle.ring.specs.Marks.{Numbers, waiting, free, with_reserved, produced, consumed}
-use Rattle.ring.specs.Rings.{State, queue, draft, Reserved, Written, Submitted, RingSubmits, Room, Pushed, Pushes, Taken}
-use Rattle.ring.proofs.Steps.{Sound, length-queue, length-draft, taken}
+use Rattle.ring.specs.Marks.{Numbers, free, with_reserved, produced}
+use Rattle.ring.specs.Rings.{State, Sound, queue, draft, Reserved, Written, Submitted, RingSubmits, Room, Pushed, Pushes}
+use Rattle.ring.proofs.Steps.{length-draft}
 
 -- one slot was reserved where none was before
 module _ {E : Type 0} (s a : State E) (r : ℕ × ℕ) (ok : Sound s) (none : s.marks.reserved ≡ 0) (some : r.0 ≡ 0 → ⊥) (h : Reserved s 1 r a) where
@@ -20,12 +20,11 @@ module _ {E : Type 0} (s a : State E) (r : ℕ × ℕ) (ok : Sound s) (none : s.
       (h.moves.all l).1 ∙ ap (with_reserved s.marks) e
 
   first_is : r.1 ≡ s.marks.producer
-  first_is = let p = ok.pbits in let f = h.moves.first in omega arith
+  first_is = let f = h.moves.first in omega arith
 
   -- the mark that was reserved may be written
   pub inside : a.marks.reserved ≤ ahead r.1 a.marks.producer → ⊥
   inside l =
-      let p = ok.pbits in
       let f = first_is in
       let u = ap (λ (m : Numbers). m.reserved) one_reserved in
       let v = ap (λ (m : Numbers). m.producer) one_reserved in
@@ -43,7 +42,7 @@ module _ {E : Type 0} (s a : State E) (r : ℕ × ℕ) (ok : Sound s) (none : s.
 
     draft_b : draft b ≡ set (draft a) 0 e
     draft_b =
-        let p = ok.pbits in
+        let p = ok.marks.pbits in
         let f = first_is in
         let v = ap (λ (m : Numbers). m.producer) one_reserved in
         let z : ahead r.1 a.marks.producer ≡ 0 = omega arith in
@@ -71,12 +70,3 @@ module _ {E : Type 0} (s a : State E) (r : ℕ × ℕ) (ok : Sound s) (none : s.
     pub pushes : (q : Result (Unit {0}) Refusal) (t : State E) → RingSubmits b 1 q t → Pushes s e q t
     pushes (Ok _) t m = (λ n x. x.1 room, pushed t m.1)
     pushes (Err x) t m = absurd (omega (arith, ap (λ (k : Numbers). k.reserved) marks_b, m.0.0.1))
-
--- the oldest entry, taken
-pub popped :
-    {E : Type 0} (s t : State E) (e : E) → Sound s → 0 < waiting s.marks → ((d : E) → e ≡ get_or (queue s) 0 d)
-    → t.marks ≡ consumed s.marks 1 → t.slots ≡ s.slots → Taken s (e ∷ []) t
-popped s t e ok l h m x =
-    let long = length-queue s ok in
-    let q : 0 < length (queue s) = omega arith in
-    taken s ok t (e ∷ []) (sym (take_more (queue s) 0 e q ∙ ap (λ y. y ∷ []) (sym (h e)))) l m x

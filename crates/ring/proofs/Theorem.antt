@@ -5,11 +5,11 @@ use Rattle.ring.specs.Wrap.{past, ahead}
 use Rattle.ring.specs.Spans.{span}
 use Rattle.ring.specs.Sizes.{SizeFor}
 use Rattle.ring.specs.Marks.{Numbers, waiting, consumed}
-use Rattle.ring.specs.Rings.{State, queue, draft, Made}
+use Rattle.ring.specs.Rings.{State, Sound, queue, draft, Made}
 use Rattle.ring.specs.Runs.{Event, Reserve, Put, Submit, Withdraw, Peek, Get, Cancel, Release, Push, Take, Step, Past, new, more, History, history, after, producer_at, consumer_at, Fifo, Answered, AllAnswered, EveryRun}
 use Rattle.ring.proofs.Inside.{inside_count, inside_mark}
 use Rattle.ring.proofs.Kept.{sound_new, sound_step}
-use Rattle.ring.proofs.Steps.{Sound, length-queue, length-draft, granted}
+use Rattle.ring.proofs.Steps.{length-queue, length-draft, granted}
 
 -- the state is what the history says
 record Agrees {E : Type 0} (z start : ℕ) (h : History E) (s : State E) : Type 0 where
@@ -119,7 +119,6 @@ module _ {E : Type 0} (z start : ℕ) (h : History E) (s t : State E) (ok : Soun
   agrees_step (Cancel n (Err _)) w = agrees_same w.1
   agrees_step (Release n (Ok _)) w =
       let l = inside_count s.marks.peeked n w.0 in
-      let v = ok.seen in
       agrees_left n (omega arith) w.1.moves w.1.memory w.1.waits w.1.drafts
   agrees_step (Release n (Err _)) w = agrees_same w.1
   agrees_step (Push e (Ok _)) w =
@@ -144,7 +143,6 @@ module _ {E : Type 0} (z start : ℕ) (h : History E) (s t : State E) (ok : Soun
   answered (Peek n r) w = tt
   answered (Get mark (Ok e)) w =
       let l = inside_mark s.marks.peeked (ahead mark s.marks.consumer) w.0.0 in
-      let v = ok.seen in
       let on = waits_on in
       let at : ahead mark s.marks.consumer ≡ ahead mark (consumer_at start h) = ap (ahead mark) a.consumer in (
         omega arith,
@@ -164,7 +162,6 @@ module _ {E : Type 0} (z start : ℕ) (h : History E) (s t : State E) (ok : Soun
   fifo =
       let q = length-queue s ok in
       let w = waits_on in
-      let f = ok.fits in
       let b = a.size in
       record {
         size = a.size;

@@ -1,18 +1,28 @@
 // A ring: marks beside the caller's slice of entries.
-ghost use Rattle.std.specs.Prelude.{◌≤◌, length};
-
 use crate::marks::Marks;
+use std::marker::Model;
 
-pub(crate) mod consuming;
+mod batches;
+mod consuming;
 mod made;
 mod producing;
 mod several;
 mod single;
+mod waiting;
 
 // Entries of the slice past the size are never touched.
 #[derive(Drop)]
 pub struct Ring<'a, E> {
     marks: Marks,
     slots: &'a mut [E],
-    ghost room: { marks.size ≤ length slots.now },
+}
+
+impl<'a, E> Model for Ring<'a, E> {
+    ghost use Rattle.ring.specs.Rings.{State, Sound};
+
+    ghost Value = { State E };
+
+    ghost view = { λ r. record { marks = r.marks; slots = r.slots.now } };
+
+    ghost invariant = { λ r. Sound (record { marks = r.marks; slots = r.slots.now }) };
 }
