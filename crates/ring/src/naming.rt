@@ -39,16 +39,10 @@ impl<'a, E: NamesFrame> Ring<'a, E> {
         ensures { result ≡ count_by (λ e. nat_eq (E.NamesFrame.names e) frame) (queue self.now) }
     {
         let (front, back) = self.waiting_parts();
-        (count_among(front, frame) + count_among(back, frame)) as u32
+        front
+            .iter()
+            .chain(back)
+            .filter(|entry| entry.named_frame() == frame)
+            .count() as u32
     }
-}
-
-// How many of the entries name the frame.
-fn count_among<E: NamesFrame>(entries: &[E], frame: u64) -> usize
-    ensures { result ≡ count_by (λ e. nat_eq (E.NamesFrame.names e) frame) entries.now }
-{
-    entries
-        .iter()
-        .filter(|entry| entry.named_frame() == frame)
-        .count()
 }
