@@ -22,14 +22,6 @@ module _ {E : Type 0} (s a : State E) (r : ℕ × ℕ) (ok : Sound s) (none : s.
   first_is : r.1 ≡ s.marks.producer
   first_is = let f = h.moves.first in omega arith
 
-  -- the mark that was reserved may be written
-  pub inside : a.marks.reserved ≤ ahead r.1 a.marks.producer → ⊥
-  inside l =
-      let f = first_is in
-      let u = ap (λ (m : Numbers). m.reserved) one_reserved in
-      let v = ap (λ (m : Numbers). m.producer) one_reserved in
-      omega arith
-
   module _ (b : State E) (e : E) (ok_a : Sound a) (w : Written a r.1 e b) where
     marks_b : b.marks ≡ with_reserved s.marks 1
     marks_b = w.moves ∙ one_reserved

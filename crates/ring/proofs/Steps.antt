@@ -5,6 +5,7 @@ use Rattle.std.proofs.lemmas.Bool.{cases_lt}
 use Rattle.umem.specs.declared.refusal.Refusal.{Refusal}
 use Rattle.umem.specs.declared.refusal.Refusal.TheVariants.{OutsideSpan}
 use Rattle.umem.specs.Refusing.{Answers, NoneApplies}
+use Rattle.umem.proofs.Refusing.{answers_weaker}
 use Rattle.ring.specs.Wrap.{past, ahead}
 use Rattle.ring.specs.Spans.{span}
 use Rattle.ring.specs.Marks.{Numbers, fresh_numbers, waiting, free, with_reserved, produced, consumed, Reserves, Withdraws, Submits, Releases}
@@ -22,8 +23,7 @@ lifted :
     {E : Type 0} {applies : ℕ → Type 0} {m : Numbers} (s : State E) (k : Numbers) (Q : State E → Type 0) (r : Result (Unit {0}) Refusal)
     → Answers applies (λ _. k ≡ m) (k ≡ s.marks) r → (NoneApplies applies → Q (with_marks s m))
     → Answers applies (λ _. Q (with_marks s k)) (with_marks s k ≡ s) r
-lifted s k Q (Ok _) h q = (h.0, subst (λ (k : Numbers). Q (with_marks s k)) (sym h.1) (q h.0))
-lifted s k Q (Err _) h q = (h.0, ap (with_marks s) h.1)
+lifted s k Q r h q = answers_weaker r h (λ _ none e. subst (λ (k : Numbers). Q (with_marks s k)) (sym e) (q none)) (λ e. ap (with_marks s) e)
 
 module _ {E : Type 0} (s : State E) (ok : Sound s) where
   pub length-queue : length (queue s) ≡ waiting s.marks

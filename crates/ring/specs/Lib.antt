@@ -3,6 +3,6 @@ pub mod Spans
 pub mod Sizes
 pub mod Marks
 pub mod Sides
-pub mod Inside
 pub mod Rings
+pub mod Views
 pub mod Runs

@@ -20,7 +20,7 @@ impl Model for Marks {
 
     ghost Value = { Numbers };
 
-    ghost use Rattle.ring.specs.Inside.{numbers};
+    ghost use Rattle.ring.specs.Views.{numbers};
 
     ghost view = { numbers };
 

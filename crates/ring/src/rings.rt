@@ -22,7 +22,9 @@ impl<'a, E> Model for Ring<'a, E> {
 
     ghost Value = { State E };
 
-    ghost view = { λ r. record { marks = r.marks; slots = r.slots.now } };
+    ghost use Rattle.ring.specs.Views.{state};
 
-    ghost invariant = { λ r. Sound (record { marks = r.marks; slots = r.slots.now }) };
+    ghost view = { state };
+
+    ghost invariant = { λ r. Sound (state r) };
 }
