@@ -9,6 +9,6 @@ pub returns : goal.returns
 returns g c =
     let ok = rw c.self.view_is at c.self.invariant in
     let none : c.args.self.now.marks.reserved ≡ 0 = omega (arith, ap (λ (s : State _). s.marks.reserved) c.self.view_is) in
-    pushes _ _ c.reserve-count.result ok none c.if-count-eq0.false c.reserve-count.ensures
-    _ c.args.entry (sound_step _ _ ok (Reserve 1 c.reserve-count.result) c.reserve-count.ensures) c.in_ok-put.ensures.1
-    c.submit.result _ c.submit.ensures
+    let held = c.reserve-count.ensures in
+    pushes _ _ _ c.reserve-count.result c.args.entry ok none c.if-count-eq0.false held (sound_step _ _ ok (Reserve 1 c.reserve-count.result) held)
+    c.in_ok-put.ensures.1 c.submit.result _ c.submit.ensures
