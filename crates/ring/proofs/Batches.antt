@@ -17,12 +17,11 @@ module _ {E : Type 0} (s a : State E) (n m : ℕ) (r : ℕ × ℕ) (ok : Sound s
       let same = ap (λ (k : Numbers). k.consumer) p.moves.moved in
       let zero : ahead o a.marks.consumer ≡ 0 = omega arith in
       let one : ahead (past o 1) a.marks.consumer ≡ 1 = omega arith in
-      let fx : x ≡ get_or (queue s) 0 x = first.waits x ∙ ap (λ (i : ℕ). get_or (queue a) i x) zero ∙ ap (λ (z : List _). get_or z 0 x) p.waits in
-      let fy : y ≡ get_or (queue s) 1 y = second.waits y ∙ ap (λ (i : ℕ). get_or (queue a) i y) one ∙ ap (λ (z : List _). get_or z 1 y) p.waits in
-      let h0 : 0 < length (queue s) = omega arith in
-      let h1 : 1 < length (queue s) = omega arith in
-      let t0 : take 1 (queue s) ≡ x ∷ [] = take_more (queue s) 0 x h0 ∙ ap (λ z. z ∷ []) (sym fx) in
-      sym (take_more (queue s) 1 y h1 ∙ ap (λ (z : List _). z ++ get_or (queue s) 1 y ∷ []) t0 ∙ ap (λ z. x ∷ z ∷ []) (sym fy))
+      let older : get_or (queue s) 0 x ≡ x = let e = first.waits x in let same = p.waits in cc in
+      let younger : get_or (queue s) 1 y ≡ y = let e = second.waits y in let same = p.waits in cc in
+      let one_taken = take_more (queue s) 0 x (omega arith) in
+      let both_taken = take_more (queue s) 1 y (omega arith) in
+      cc
 
   -- they were released, and what was peeked beyond them put back
   module _ (b t : State E) (l : n ≤ a.marks.peeked) (q : Released a n b) (c : Cancelled b r.0 t) where
@@ -38,17 +37,9 @@ module _ {E : Type 0} (s a : State E) (n m : ℕ) (r : ℕ × ℕ) (ok : Sound s
         let moved : t.marks ≡ consumed s.marks n =
         c.moves ∙ ap (λ (k : Numbers). with_peeked k (k.peeked - r.0)) (q.moves ∙ ap (λ (k : Numbers). consumed k n) p.moves.moved)
         ∙ ap (with_peeked (consumed s.marks n)) left in
-        let rest : queue t ≡ drop n (queue s) = c.waits ∙ q.waits ∙ ap (drop n) p.waits in (
+        let split = take-append-drop n (queue s) in (
           λ _ few. omega (arith, few.1, all_wait),
-          (
-            long,
-            record {
-              moves = moved ∙ ap (consumed s.marks) (sym long);
-              memory = c.memory ∙ q.memory ∙ p.memory;
-              waits = sym (ap (λ (ys : List E). ys ++ queue t) e ∙ ap (λ (ys : List E). take n (queue s) ++ ys) rest ∙ take-append-drop n (queue s));
-              drafts = c.drafts ∙ q.drafts ∙ p.drafts;
-            },
-          ),
+          (long, record { moves = cc; memory = cc; waits = cc; drafts = cc }),
         )
 
 -- as many entries as were wanted, copied while they were peeked

@@ -46,9 +46,9 @@ module _ {E : Type 0} (s : State E) (ok : Sound s) where
       let joint = span_split z c w n s.slots ok.marks.whole ok.room (omega arith) in
       let cut = span_split z p n (r - n) s.slots ok.marks.whole ok.room (omega arith) in
       let parts : draft s ≡ span z p n s.slots ++ span z (past p n) (r - n) s.slots = cc in
-      let front : take n (draft s) ≡ span z p n s.slots = ap (take n) parts ∙ take_at _ _ n len in
-      let back : drop n (draft s) ≡ span z (past p n) (r - n) s.slots = ap (drop n) parts ∙ drop_at _ _ n len in
-      record { moves = refl; memory = refl; waits = cc; drafts = sym back }
+      let front = take_at _ (span z (past p n) (r - n) s.slots) n len in
+      let back = drop_at _ (span z (past p n) (r - n) s.slots) n len in
+      record { moves = refl; memory = refl; waits = cc; drafts = cc }
 
   pub submits : (n : ℕ) (r : Result (Unit {0}) Refusal) (k : Numbers) → Submits s.marks n r k → RingSubmits s n r (with_marks s k)
   submits n r k h = lifted s k (Submitted s n) r h (λ l. submitted n (inside_count _ _ l))
@@ -62,8 +62,8 @@ module _ {E : Type 0} (s : State E) (ok : Sound s) where
       let len : length (span z p (r - n) s.slots) ≡ r - n = length-span z p (r - n) s.slots ok.room (omega arith) in
       let cut = span_split z p (r - n) n s.slots ok.marks.whole ok.room (omega arith) in
       let parts : draft s ≡ span z p (r - n) s.slots ++ span z (past p (r - n)) n s.slots = cc in
-      let front : take (r - n) (draft s) ≡ span z p (r - n) s.slots = ap (take (r - n)) parts ∙ take_at _ _ (r - n) len in
-      record { moves = refl; memory = refl; waits = refl; drafts = sym front }
+      let front = take_at _ (span z (past p (r - n)) n s.slots) (r - n) len in
+      record { moves = refl; memory = refl; waits = refl; drafts = cc }
 
   pub withdraws : (n : ℕ) (r : Result (Unit {0}) Refusal) (k : Numbers) → Withdraws s.marks n r k → RingWithdraws s n r (with_marks s k)
   withdraws n r k h = lifted s k (Withdrawn s n) r h (λ l. withdrawn n (inside_count _ _ l))
@@ -84,13 +84,12 @@ module _ {E : Type 0} (s : State E) (ok : Sound s) where
       let z = s.marks.size in
       let p = s.marks.producer in
       let a = granted n r k h in
-      let e = ap (with_marks s) a.1 in
       let joint = span_split z p s.marks.reserved r.0 s.slots ok.marks.whole ok.room (omega arith) in
       record {
         moves = h;
         memory = refl;
-        waits = ap (λ (v : State E). queue v) e;
-        drafts = ap (λ (v : State E). draft v) e ∙ joint ∙ ap (λ (m : ℕ). draft s ++ span z m r.0 s.slots) (sym h.first);
+        waits = cc;
+        drafts = let first = h.first in cc;
       }
 
   released : (n : ℕ) → n ≤ waiting s.marks → Released s n (with_marks s (consumed s.marks n))
@@ -104,7 +103,7 @@ module _ {E : Type 0} (s : State E) (ok : Sound s) where
       let len : length (span z c n s.slots) ≡ n = length-span z c n s.slots ok.room (omega arith) in
       let cut = span_split z c n (w - n) s.slots ok.marks.whole ok.room (omega arith) in
       let parts : queue s ≡ span z c n s.slots ++ span z (past c n) (w - n) s.slots = cc in
-      let back : drop n (queue s) ≡ span z (past c n) (w - n) s.slots = ap (drop n) parts ∙ drop_at _ _ n len in
+      let back = drop_at _ (span z (past c n) (w - n) s.slots) n len in
       record { moves = refl; memory = refl; waits = cc; drafts = refl }
 
   pub releases : (n : ℕ) (r : Result (Unit {0}) Refusal) (k : Numbers) → Releases s.marks n r k → RingReleases s n r (with_marks s k)
@@ -166,11 +165,10 @@ module _ {E : Type 0} (s : State E) (ok : Sound s) where
       let some : 0 < length (queue s) = omega (arith, length-queue) in
       let oldest : get_or (queue s) 0 e ≡ e =
       ap (λ (i : ℕ). get_or (queue s) i e) (sym zero) ∙ read_at s.marks.consumer e (omega arith) (omega arith) ∙ sym (x e) in
-      let first : take 1 (queue s) ≡ e ∷ [] = take_more (queue s) 0 e some ∙ ap (λ y. y ∷ []) oldest in
-      let split : queue s ≡ e ∷ queue (with_marks s (consumed s.marks 1)) =
-      sym (ap (λ (ys : List E). e ∷ ys) rest.waits ∙ ap (λ (ys : List E). ys ++ drop 1 (queue s)) (sym first) ∙ take-append-drop 1 (queue s)) in
+      let first = take_more (queue s) 0 e some in
+      let split = take-append-drop 1 (queue s) in
       subst (λ (k : Numbers). Takes s 1 (Ok (e ∷ [])) (with_marks s k)) (sym m)
-      (λ _ few. omega (arith, few.1), (refl, record { moves = refl; memory = refl; waits = split; drafts = refl }))
+      (λ _ few. omega (arith, few.1), (refl, record { moves = refl; memory = refl; waits = cc; drafts = refl }))
 
   -- where none waits, none leaves
   pub none_popped : waiting s.marks ≡ 0 → Pops s None s × Takes s 1 (Err OutsideSpan) s
