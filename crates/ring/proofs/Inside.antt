@@ -1,6 +1,6 @@
 -- What a call that is not refused says of its mark or count.
-use Rattle.std.proofs.Common.{◌≡◌, ℕ, ◌<◌, ◌≤◌, Bool, true, false, eqb, Ok, Err, MatchBool, Result, refl, ⊎_elim, arith}
-use Rattle.std.proofs.lemmas.Bool.{cases_lt, cases_eq, eqb-true, eqb-false}
+use Rattle.std.proofs.Common.{ℕ, ◌<◌, ◌≤◌, Ok, Err, Result, refl, ⊎_elim, arith}
+use Rattle.std.proofs.lemmas.Bool.{cases_lt, cases_eq}
 use Rattle.umem.specs.declared.refusal.Refusal.{Refusal}
 use Rattle.umem.specs.Refusing.{NoneApplies, Answers}
 use Rattle.ring.specs.Marks.{Numbers, waiting, Outside}

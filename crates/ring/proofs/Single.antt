@@ -1,11 +1,11 @@
 -- A push, from the calls that it is made of.
-use Rattle.std.proofs.Common.{◌≡◌, ℕ, ◌+◌, ◌-◌, ◌%◌, ◌<◌, ◌≤◌, List, [], ◌∷◌, ◌++◌, length, take, drop, set, Ok, Err, Result, sym, ap, ◌∙◌, ⊎_elim, arith}
+use Rattle.std.proofs.Common.{◌≡◌, ℕ, ◌+◌, ◌-◌, [], ◌∷◌, length, take, set, Ok, Err, Result, ap, ◌∙◌, ⊎_elim, arith}
 use Rattle.std.proofs.lemmas.List.{take_more_set, nil_from_length, length-drop, length-set}
 use Rattle.std.proofs.lemmas.Bool.{cases_lt}
 use Rattle.umem.specs.declared.refusal.Refusal.{Refusal}
 use Rattle.ring.specs.Wrap.{ahead}
-use Rattle.ring.specs.Marks.{Numbers, free, with_reserved, produced}
-use Rattle.ring.specs.Rings.{State, Sound, queue, draft, Reserved, Written, Submitted, RingSubmits, Room, Pushed, Pushes}
+use Rattle.ring.specs.Marks.{Numbers, free, with_reserved}
+use Rattle.ring.specs.Rings.{State, Sound, draft, Reserved, Written, Submitted, RingSubmits, Room, Pushed, Pushes}
 use Rattle.ring.proofs.Steps.{length-draft}
 
 -- one slot was reserved where none was before, and written

@@ -3,7 +3,7 @@ use Rattle.std.specs.Prelude.{◌≡◌, ℕ, ◌+◌, ◌-◌, ◌%◌, ◌<◌
 use Rattle.umem.specs.declared.refusal.Refusal.{Refusal}
 use Rattle.umem.specs.declared.refusal.Refusal.TheVariants.{OutsideSpan}
 use Rattle.umem.specs.Refusing.{Answers}
-use Rattle.ring.specs.Wrap.{ahead}
+use Rattle.ring.specs.Wrap.{past, ahead}
 use Rattle.ring.specs.Spans.{span}
 use Rattle.ring.specs.Sizes.{SizeFor}
 use Rattle.ring.specs.Marks.{Numbers, SoundMarks, fresh_numbers, waiting, with_reserved, with_peeked, produced, consumed, Outside, Reserves, Peeks}
@@ -80,6 +80,10 @@ pub record Peeked {E : Type 0} (s : State E) (n : ℕ) (r : ℕ × ℕ) (t : Sta
   pub memory : t.slots ≡ s.slots
   pub waits : queue t ≡ queue s
   pub drafts : draft t ≡ draft s
+
+-- peek until n entries are peeked, those that were before among them, or all that wait
+abbrev pub PeekedTo : {E : Type 0} → State E → ℕ → ℕ → State E → Type 0
+PeekedTo s n count t = Peeked s (n - s.marks.peeked) (count, past s.marks.consumer s.marks.peeked) t
 
 -- get: the entry at a peeked mark
 pub record Read {E : Type 0} (s : State E) (mark : ℕ) (e : E) : Type 0 where

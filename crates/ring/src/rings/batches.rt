@@ -4,9 +4,9 @@ ghost use Rattle.ring.specs.Rings.{Cancelled};
 use super::Ring;
 
 // The guard of a batch: `count` entries were peeked for it. Make it in place by its literal.
-pub(crate) struct Batch<'r, 'a, E: Copy> {
-    pub(crate) ring: &'r mut Ring<'a, E>,
-    pub(crate) count: u32,
+pub(super) struct Batch<'r, 'a, E: Copy> {
+    pub(super) ring: &'r mut Ring<'a, E>,
+    pub(super) count: u32,
 }
 
 impl<'r, 'a, E: Copy> Drop for Batch<'r, 'a, E> {

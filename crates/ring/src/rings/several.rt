@@ -1,5 +1,5 @@
 // Several entries at a time, all or none: a batch is peeked, read and released, and put back where it is left before.
-ghost use Rattle.ring.specs.Rings.{listed, pair_of, Takes, TakesInto};
+ghost use Rattle.ring.specs.Rings.{Sound, listed, pair_of, PeekedTo, Takes, TakesInto};
 
 use super::Ring;
 use super::batches::Batch;
@@ -11,8 +11,7 @@ impl<'a, E: Copy> Ring<'a, E> {
         ensures { Takes self.old 2 (listed pair_of result) self.new }
     {
         let oldest = self.consumer();
-        let seen = self.marks.peeked();
-        let (count, _) = self.peek(2u32.saturating_sub(seen));
+        let count = self.peek_to(2);
         let batch = Batch { ring: self, count };
         let first = batch.ring.get(oldest)?;
         let second = batch.ring.get(oldest.wrapping_add(1))?;
@@ -29,13 +28,22 @@ impl<'a, E: Copy> Ring<'a, E> {
             return Err(Refusal::OutsideSpan);
         }
         let wanted = out.len() as u32;
-        let seen = self.marks.peeked();
-        let (count, _) = self.peek(wanted.saturating_sub(seen));
+        let count = self.peek_to(wanted);
         let batch = Batch { ring: self, count };
         if batch.ring.len() < wanted {
             return Err(Refusal::OutsideSpan);
         }
         batch.ring.copy_oldest(out);
         batch.ring.release(wanted)
+    }
+
+    // Peeks until so many entries are peeked, those that were before among them, or all that wait: how many more.
+    fn peek_to(&mut self, wanted: u32) -> u32
+        ensures sound { Sound self.old }
+        ensures peeked { PeekedTo self.old wanted result self.new }
+    {
+        let seen = self.marks.peeked();
+        let (count, _) = self.peek(wanted.saturating_sub(seen));
+        count
     }
 }

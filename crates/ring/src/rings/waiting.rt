@@ -20,7 +20,7 @@ impl<'a, E> Ring<'a, E> {
 
 impl<'a, E: Copy> Ring<'a, E> {
     // Copies the oldest entries.
-    pub(crate) fn copy_oldest(&self, out: &mut [E])
+    pub(super) fn copy_oldest(&self, out: &mut [E])
         requires { length out.old ≤ length (queue self.now) }
         ensures { out.new ≡ take (length out.old) (queue self.now) }
     {
