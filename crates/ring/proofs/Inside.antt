@@ -1,6 +1,6 @@
 -- What a call that is not refused says of its mark or count.
-use Rattle.std.proofs.Common.{◌≡◌, ℕ, ◌<◌, ◌≤◌, Bool, true, false, eqb, Ok, Err, MatchBool, Result, refl, ⊎_elim, arith}
-use Rattle.std.proofs.lemmas.Bool.{cases_lt, cases_eq, eqb-true, eqb-false}
+use Rattle.std.proofs.Common.{ℕ, ◌<◌, ◌≤◌, Ok, Err, Result, refl, ⊎_elim, arith}
+use Rattle.std.proofs.lemmas.Bool.{cases_lt, cases_eq}
 use Rattle.umem.specs.declared.refusal.Refusal.{Refusal}
 use Rattle.umem.specs.Refusing.{NoneApplies, Answers}
 use Rattle.ring.specs.Marks.{Numbers, waiting, Outside}
@@ -23,15 +23,3 @@ inside_room m h =
 pub served : {A : Type 0} (P Q L : Type 0) (r : Result A Refusal) → Answers (Outside P) (λ _. Q) L r → (P → ⊥) → Q
 served P Q L (Ok a) h no_p = h.1
 served P Q L (Err e) h no_p = absurd (no_p h.0.0.1)
-
--- what a test for equal numbers says
-pub when_equal : {P Q : Type 0} (a b : ℕ) → (a ≡ b → P) → ((a ≡ b → ⊥) → Q) → MatchBool (eqb a b) P Q
-when_equal {P} {Q} a b yes_p no_q = by (eqb a b) (λ e. yes_p (eqb-true a b e)) (λ e. no_q (eqb-false a b e))
-  where
-    by : (t : Bool) → (t ≡ true → P) → (t ≡ false → Q) → MatchBool t P Q
-    by true f g = f refl
-    by false f g = g refl
-
-pub when_weaker : {P Q P' Q' : Type 0} (t : Bool) → MatchBool t P Q → (P → P') → (Q → Q') → MatchBool t P' Q'
-when_weaker true h f g = f h
-when_weaker false h f g = g h

@@ -1,8 +1,9 @@
-pub mod Ends
+pub mod Batches
 pub mod Inside
-pub mod Kept
+pub mod Parts
 pub mod Powers
-pub mod Single
 pub mod SpanLaws
 pub mod Steps
+pub mod Kept
+pub mod Single
 pub mod Theorem

@@ -5,11 +5,11 @@ use Rattle.ring.specs.Wrap.{past, ahead}
 use Rattle.ring.specs.Spans.{span}
 use Rattle.ring.specs.Sizes.{SizeFor}
 use Rattle.ring.specs.Marks.{Numbers, waiting, consumed}
-use Rattle.ring.specs.Rings.{State, queue, draft, Made}
+use Rattle.ring.specs.Rings.{State, Sound, queue, draft, Made}
 use Rattle.ring.specs.Runs.{Event, Reserve, Put, Submit, Withdraw, Peek, Get, Cancel, Release, Push, Take, Step, Past, new, more, History, history, after, producer_at, consumer_at, Fifo, Answered, AllAnswered, EveryRun}
 use Rattle.ring.proofs.Inside.{inside_count, inside_mark}
 use Rattle.ring.proofs.Kept.{sound_new, sound_step}
-use Rattle.ring.proofs.Steps.{Sound, length-queue, length-draft, granted}
+use Rattle.ring.proofs.Steps.{length-queue, length-draft, granted}
 
 -- the state is what the history says
 record Agrees {E : Type 0} (z start : ℕ) (h : History E) (s : State E) : Type 0 where
@@ -38,12 +38,12 @@ module _ {E : Type 0} (z start : ℕ) (h : History E) (s t : State E) (ok : Soun
       let w = waits_on in
       let c = a.consumer in
       record {
-        size = ap (λ (k : Numbers). k.size) m ∙ a.size;
-        rest = q ∙ ap (drop n) a.rest ∙ drop-drop n h.left h.submitted;
+        size = cc;
+        rest = let e = drop-drop n h.left h.submitted in cc;
         within = omega arith;
-        drafts = d ∙ a.drafts;
-        memory = x ∙ a.memory;
-        producer = ap (λ (k : Numbers). k.producer) m ∙ a.producer;
+        drafts = cc;
+        memory = cc;
+        producer = cc;
         consumer = ap (λ (k : Numbers). k.consumer) m ∙ omega arith;
       }
 
@@ -57,13 +57,13 @@ module _ {E : Type 0} (z start : ℕ) (h : History E) (s t : State E) (ok : Soun
       let b = a.producer in
       let len = length-append h.submitted xs in
       record {
-        size = ap (λ (k : Numbers). k.size) m ∙ same_size ∙ a.size;
-        rest = q ∙ ap (λ (us : List E). us ++ xs) a.rest ∙ sym (drop-append-le h.left h.submitted xs w);
+        size = cc;
+        rest = let e = drop-append-le h.left h.submitted xs w in cc;
         within = omega arith;
         drafts = e;
         memory = x;
         producer = ap (λ (k : Numbers). k.producer) m ∙ p ∙ omega arith;
-        consumer = ap (λ (k : Numbers). k.consumer) m ∙ c ∙ a.consumer;
+        consumer = cc;
       }
 
   -- neither came nor left
@@ -73,61 +73,57 @@ module _ {E : Type 0} (z start : ℕ) (h : History E) (s t : State E) (ok : Soun
       → Agrees z start (record { submitted = h.submitted; left = h.left; drafted = d; slots = ys }) t
   agrees_still d ys m same_size p c q e x =
       record {
-        size = ap (λ (k : Numbers). k.size) m ∙ same_size ∙ a.size;
-        rest = q ∙ a.rest;
+        size = cc;
+        rest = cc;
         within = a.within;
         drafts = e;
         memory = x;
-        producer = ap (λ (k : Numbers). k.producer) m ∙ p ∙ a.producer;
-        consumer = ap (λ (k : Numbers). k.consumer) m ∙ c ∙ a.consumer;
+        producer = cc;
+        consumer = cc;
       }
 
   agrees_step : (e : Event E) → Step s e t → Agrees z start (after z start e h) t
   agrees_step (Reserve n r) w =
       let m = (granted s ok n r t.marks w.moves).1 in
       agrees_still (h.drafted ++ span z r.1 r.0 h.slots) h.slots m refl refl refl
-      w.waits (let x = w.drafts in let y = a.size in let u = a.drafts in let v = a.memory in cc) (w.memory ∙ a.memory)
+      w.waits (cc) (cc)
   agrees_step (Put mark e (Ok _)) w =
       let m = w.1.moves in
       agrees_still (set h.drafted (ahead mark (producer_at start h)) e) (set h.slots (mark % z) e) m refl refl refl
       w.1.waits
-      (w.1.drafts ∙ ap (λ (i : ℕ). set (draft s) (ahead mark i) e) a.producer ∙ ap (λ (xs : List E). set xs (ahead mark (producer_at start h)) e) a.drafts)
-      (w.1.memory ∙ ap (λ (i : ℕ). set s.slots (mark % i) e) a.size ∙ ap (λ (xs : List E). set xs (mark % z) e) a.memory)
+      (cc) (cc)
   agrees_step (Put mark e (Err _)) w = agrees_same w.1
   agrees_step (Submit n (Ok _)) w =
       let l = inside_count s.marks.reserved n w.0 in
       let m = w.1.moves in
       let long : length (take n h.drafted) ≡ n = length-take-le n h.drafted (omega (arith, length-draft s ok, ap length a.drafts)) in
       agrees_come n (take n h.drafted) (drop n h.drafted) h.slots long m refl refl refl
-      (w.1.waits ∙ ap (λ (xs : List E). queue s ++ take n xs) a.drafts) (w.1.drafts ∙ ap (drop n) a.drafts) (w.1.memory ∙ a.memory)
+      (cc) (cc) (cc)
   agrees_step (Submit n (Err _)) w = agrees_same w.1
   agrees_step (Withdraw n (Ok _)) w =
       let m = w.1.moves in
       let long : s.marks.reserved ≡ length h.drafted = sym (length-draft s ok) ∙ ap length a.drafts in
       agrees_still (take (length h.drafted - n) h.drafted) h.slots m refl refl refl
-      w.1.waits (w.1.drafts ∙ ap (λ (k : ℕ). take (k - n) (draft s)) long ∙ ap (take (length h.drafted - n)) a.drafts) (w.1.memory ∙ a.memory)
+      w.1.waits (cc) (cc)
   agrees_step (Withdraw n (Err _)) w = agrees_same w.1
   agrees_step (Peek n r) w =
       let m = w.moves.moved in
       agrees_still h.drafted h.slots m refl refl refl
-      w.waits (w.drafts ∙ a.drafts) (w.memory ∙ a.memory)
+      w.waits (cc) (cc)
   agrees_step (Get mark r) w = agrees_same w.1
   agrees_step (Cancel n (Ok _)) w =
       let m = w.1.moves in
       agrees_still h.drafted h.slots m refl refl refl
-      w.1.waits (w.1.drafts ∙ a.drafts) (w.1.memory ∙ a.memory)
+      w.1.waits (cc) (cc)
   agrees_step (Cancel n (Err _)) w = agrees_same w.1
   agrees_step (Release n (Ok _)) w =
       let l = inside_count s.marks.peeked n w.0 in
-      let v = ok.seen in
       agrees_left n (omega arith) w.1.moves w.1.memory w.1.waits w.1.drafts
   agrees_step (Release n (Err _)) w = agrees_same w.1
   agrees_step (Push e (Ok _)) w =
       let m = w.1.moves in
       agrees_come 1 (e ∷ []) h.drafted (set h.slots (producer_at start h % z) e) refl m refl refl refl
-      w.1.waits (w.1.drafts ∙ a.drafts)
-      (w.1.memory ∙ ap (λ (i : ℕ). set s.slots (i % s.marks.size) e) a.producer ∙ ap (λ (i : ℕ). set s.slots (producer_at start h % i) e) a.size
-      ∙ ap (λ (xs : List E). set xs (producer_at start h % z) e) a.memory)
+      w.1.waits (cc) (cc)
   agrees_step (Push e (Err _)) w = agrees_same w.1
   agrees_step (Take n (Ok xs)) w =
       let l = inside_count (waiting s.marks) n w.0 in
@@ -144,7 +140,6 @@ module _ {E : Type 0} (z start : ℕ) (h : History E) (s t : State E) (ok : Soun
   answered (Peek n r) w = tt
   answered (Get mark (Ok e)) w =
       let l = inside_mark s.marks.peeked (ahead mark s.marks.consumer) w.0.0 in
-      let v = ok.seen in
       let on = waits_on in
       let at : ahead mark s.marks.consumer ≡ ahead mark (consumer_at start h) = ap (ahead mark) a.consumer in (
         omega arith,
@@ -164,7 +159,6 @@ module _ {E : Type 0} (z start : ℕ) (h : History E) (s t : State E) (ok : Soun
   fifo =
       let q = length-queue s ok in
       let w = waits_on in
-      let f = ok.fits in
       let b = a.size in
       record {
         size = a.size;

@@ -1,10 +1,9 @@
 -- The marks and counts of a ring, and what each call does to them.
-use Rattle.std.specs.Prelude.{◌≡◌, ℕ, ◌+◌, ◌-◌, ◌%◌, ◌<◌, ◌≤◌, min, Result}
+use Rattle.std.specs.Prelude.{◌≡◌, ℕ, ◌+◌, ◌-◌, ◌%◌, ◌^◌, ◌<◌, ◌≤◌, min, bit_and, Result}
 use Rattle.umem.specs.declared.refusal.Refusal.{Refusal}
 use Rattle.umem.specs.declared.refusal.Refusal.TheVariants.{OutsideSpan}
 use Rattle.umem.specs.Refusals.{number}
 use Rattle.umem.specs.Refusing.{Answers}
-use Rattle.ring.specs.declared.marks.Marks.{Marks}
 use Rattle.ring.specs.Wrap.{past, ahead}
 
 -- the size, the producer's and the consumer's mark, and how many slots are reserved and how many entries peeked
@@ -14,15 +13,6 @@ pub record Numbers : Type 0 where
   pub consumer : ℕ
   pub reserved : ℕ
   pub peeked : ℕ
-
-abbrev pub numbers : Marks → Numbers
-numbers m = record {
-  size = m.size;
-  producer = m.producer;
-  consumer = m.consumer;
-  reserved = m.reserved;
-  peeked = m.peeked;
-}
 
 -- a new ring: nothing waits, and both marks stand at the start
 abbrev pub fresh_numbers : ℕ → ℕ → Numbers
@@ -35,6 +25,16 @@ waiting s = ahead s.producer s.consumer
 -- how many slots may still be reserved
 abbrev pub free : Numbers → ℕ
 free s = s.size - waiting s - s.reserved
+
+-- what holds of the marks and counts of every ring
+pub record SoundMarks (s : Numbers) : Type 0 where
+  pub fits : waiting s + s.reserved ≤ s.size
+  pub seen : s.peeked ≤ waiting s
+  pub small : s.size ≤ 256
+  pub whole : 0 < s.size → 2 ^ 32 % s.size ≡ 0
+  pub masked : 0 < s.size → (n : ℕ) → bit_and n (s.size - 1) ≡ n % s.size
+  pub pbits : s.producer < 2 ^ 32
+  pub cbits : s.consumer < 2 ^ 32
 
 -- the same but for the count of reserved slots, or of peeked entries
 abbrev pub with_reserved : Numbers → ℕ → Numbers

@@ -1,15 +1,21 @@
 -- A ring as lists of entries, and what each call does: to the marks and counts, to the slots, and to the lists.
 use Rattle.std.specs.Prelude.{◌≡◌, ℕ, ◌+◌, ◌-◌, ◌%◌, ◌<◌, ◌≤◌, List, [], ◌∷◌, ◌++◌, length, take, drop, Some, None, Ok, Err, Option, Result, OnErr, slice_index_or, slice_set}
 use Rattle.umem.specs.declared.refusal.Refusal.{Refusal}
+use Rattle.umem.specs.declared.refusal.Refusal.TheVariants.{OutsideSpan}
 use Rattle.umem.specs.Refusing.{Answers}
-use Rattle.ring.specs.Wrap.{ahead}
+use Rattle.ring.specs.Wrap.{past, ahead}
 use Rattle.ring.specs.Spans.{span}
 use Rattle.ring.specs.Sizes.{SizeFor}
-use Rattle.ring.specs.Marks.{Numbers, fresh_numbers, waiting, with_reserved, with_peeked, produced, consumed, Outside, Reserves, Peeks}
+use Rattle.ring.specs.Marks.{Numbers, SoundMarks, fresh_numbers, waiting, with_reserved, with_peeked, produced, consumed, Outside, Reserves, Peeks}
 
 pub record State (E : Type 0) : Type 0 where
   pub marks : Numbers
   pub slots : List E
+
+-- what holds of every ring
+pub record Sound {E : Type 0} (s : State E) : Type 0 where
+  pub marks : SoundMarks s.marks
+  pub room : s.marks.size ≤ length s.slots
 
 -- the entries that wait, oldest first
 abbrev pub queue : {E : Type 0} → State E → List E
@@ -75,6 +81,10 @@ pub record Peeked {E : Type 0} (s : State E) (n : ℕ) (r : ℕ × ℕ) (t : Sta
   pub waits : queue t ≡ queue s
   pub drafts : draft t ≡ draft s
 
+-- peek until n entries are peeked, those that were before among them, or all that wait
+abbrev pub PeekedTo : {E : Type 0} → State E → ℕ → ℕ → State E → Type 0
+PeekedTo s n count t = Peeked s (n - s.marks.peeked) (count, past s.marks.consumer s.marks.peeked) t
+
 -- get: the entry at a peeked mark
 pub record Read {E : Type 0} (s : State E) (mark : ℕ) (e : E) : Type 0 where
   pub memory : (d : E) → e ≡ slice_index_or s.slots (mark % s.marks.size) d
@@ -127,6 +137,11 @@ pub record Taken {E : Type 0} (s : State E) (xs : List E) (t : State E) : Type 0
 abbrev pub Pops : {E : Type 0} → State E → Option E → State E → Type 0
 Pops s (Some e) t = Taken s (e ∷ []) t
 Pops s None t = (queue s ≡ []) × (t ≡ s)
+
+-- the one entry that was popped as a list, and nothing popped as a refusal
+abbrev pub one_of : {E : Type 0} → Option E → Result (List E) Refusal
+one_of (Some e) = Ok (e ∷ [])
+one_of None = Err OutsideSpan
 
 -- the n oldest leave together, or none does where fewer wait
 abbrev pub Takes : {E : Type 0} → State E → ℕ → Result (List E) Refusal → State E → Type 0

@@ -1,7 +1,6 @@
 // A ring over a caller's slice of entries, with marks of 32 bits that wrap, as AF_XDP has them.
 #![tactic(auto)]
 
-mod batches;
 pub mod marks;
 pub mod naming;
 pub mod rings;

@@ -2,7 +2,6 @@
 ghost use Rattle.std.specs.Prelude.{◌≡◌, ℕ, count_by, nat_eq};
 ghost use Rattle.umem.specs.Frames.{frame_named};
 ghost use Rattle.ring.specs.Rings.{queue};
-ghost use Rattle.ring.specs.Shows.{state_of};
 
 use crate::rings::Ring;
 use umem::descriptor::Descriptor;
@@ -37,15 +36,13 @@ impl NamesFrame for Descriptor {
 impl<'a, E: NamesFrame> Ring<'a, E> {
     // How many waiting entries name the frame, peeked ones too.
     pub fn count_naming(&self, frame: u64) -> u32
-        ensures { result ≡ count_by (λ e. nat_eq (E.NamesFrame.names e) frame) (queue (state_of self.now)) }
+        ensures { result ≡ count_by (λ e. nat_eq (E.NamesFrame.names e) frame) (queue self.now) }
     {
-        let mut count = 0;
-        for place in 0..self.len() {
-            let entry = self.waiting_at(place);
-            if entry.named_frame() == frame {
-                count += 1;
-            }
-        }
-        count
+        let (front, back) = self.waiting_parts();
+        front
+            .iter()
+            .chain(back)
+            .filter(|entry| entry.named_frame() == frame)
+            .count() as u32
     }
 }

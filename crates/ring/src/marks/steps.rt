@@ -1,6 +1,5 @@
 // The steps that move the marks.
-ghost use Rattle.std.specs.Prelude.{◌≡◌};
-ghost use Rattle.ring.specs.Marks.{numbers, Reserves, Withdraws, Submits, Peeks, Cancels, Releases, Consumes};
+ghost use Rattle.ring.specs.Marks.{Reserves, Withdraws, Submits, Peeks, Cancels, Releases, Consumes};
 
 use super::Marks;
 use umem::refusal::Refusal;
@@ -8,79 +7,62 @@ use umem::refusal::Refusal;
 impl Marks {
     // Reserves n slots, all or none: how many, and the mark of the first.
     pub(crate) fn reserve(&mut self, n: u32) -> (u32, u32)
-        ensures { Reserves (numbers self.old) n result (numbers self.new) }
+        ensures { Reserves self.old n result self.new }
     {
-        let first = self.producer.wrapping_add(self.reserved);
+        let first = self.producer.behind();
         if n > self.free() {
             return (0, first);
         }
-        self.reserved += n;
+        self.producer.claim(n);
         (n, first)
     }
 
     // Gives back the last n slots that are reserved.
     pub(crate) fn withdraw(&mut self, n: u32) -> Result<(), Refusal>
-        ensures { Withdraws (numbers self.old) n result (numbers self.new) }
+        ensures { Withdraws self.old n result self.new }
     {
-        if n > self.reserved {
-            return Err(Refusal::OutsideSpan);
-        }
-        self.reserved -= n;
-        Ok(())
+        self.producer.give_back(n)
     }
 
     // Hands the first n reserved slots over to the consumer.
     pub(crate) fn submit(&mut self, n: u32) -> Result<(), Refusal>
-        ensures { Submits (numbers self.old) n result (numbers self.new) }
+        ensures { Submits self.old n result self.new }
     {
-        if self.reserved < n {
-            return Err(Refusal::OutsideSpan);
-        }
-        self.producer = self.producer.wrapping_add(n);
-        self.reserved -= n;
-        Ok(())
+        self.producer.pass(n)
     }
 
     // Looks at up to n waiting entries more: how many, and the mark of the first.
     pub(crate) fn peek(&mut self, n: u32) -> (u32, u32)
-        ensures { Peeks (numbers self.old) n result (numbers self.new) }
+        ensures { Peeks self.old n result self.new }
     {
-        let first = self.consumer.wrapping_add(self.peeked);
-        let count = n.min(self.waiting() - self.peeked);
-        self.peeked += count;
+        let first = self.consumer.behind();
+        let count = n.min(self.waiting() - self.consumer.claimed);
+        self.consumer.claim(count);
         (count, first)
     }
 
     // Puts the last n peeked entries back among those to peek.
     pub(crate) fn cancel(&mut self, n: u32) -> Result<(), Refusal>
-        ensures { Cancels (numbers self.old) n result (numbers self.new) }
+        ensures { Cancels self.old n result self.new }
     {
-        if n > self.peeked {
-            return Err(Refusal::OutsideSpan);
-        }
-        self.peeked -= n;
-        Ok(())
+        self.consumer.give_back(n)
     }
 
     // Gives the slots of the first n peeked entries back to the producer.
     pub(crate) fn release(&mut self, n: u32) -> Result<(), Refusal>
-        ensures { Releases (numbers self.old) n result (numbers self.new) }
+        ensures { Releases self.old n result self.new }
     {
-        if self.peeked < n {
-            return Err(Refusal::OutsideSpan);
-        }
-        self.consume(n)
+        self.consumer.pass(n)
     }
 
     // Gives the slots of the n oldest entries back to the producer, whether they were peeked or not.
     pub(crate) fn consume(&mut self, n: u32) -> Result<(), Refusal>
-        ensures { Consumes (numbers self.old) n result (numbers self.new) }
+        ensures { Consumes self.old n result self.new }
     {
         if n > self.waiting() {
             return Err(Refusal::OutsideSpan);
         }
-        self.consumer = self.consumer.wrapping_add(n);
-        self.peeked = self.peeked.saturating_sub(n);
+        self.consumer.go_on(n);
         Ok(())
     }
 }

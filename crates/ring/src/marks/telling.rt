@@ -1,9 +1,9 @@
 // What the marks tell.
-ghost use Rattle.std.specs.Prelude.{◌≡◌, ◌%◌, ◌<◌, ◌≤◌, MatchBool};
-ghost use Rattle.ring.specs.Marks.{numbers, waiting, free, Finds};
-ghost use Rattle.ring.specs.Wrap.{past};
+ghost use Rattle.std.specs.Prelude.{◌≡◌, ◌%◌, ◌<◌, ◌≤◌, ◌↔◌, IsTrue};
+ghost use Rattle.ring.specs.Marks.{waiting, free, Finds};
 
 use super::Marks;
+use super::sides::Side;
 use umem::refusal::Refusal;
 
 impl Marks {
@@ -18,33 +18,33 @@ impl Marks {
     pub(crate) fn producer(&self) -> u32
         ensures { result ≡ self.now.producer }
     {
-        self.producer
+        self.producer.mark
     }
 
     // The consumer's mark.
     pub(crate) fn consumer(&self) -> u32
         ensures { result ≡ self.now.consumer }
     {
-        self.consumer
+        self.consumer.mark
     }
 
     // How many entries wait.
     pub(crate) fn waiting(&self) -> u32
-        ensures { result ≡ waiting (numbers self.now) }
+        ensures { result ≡ waiting self.now }
     {
-        self.producer.wrapping_sub(self.consumer)
+        self.producer.mark.wrapping_sub(self.consumer.mark)
     }
 
     // How many slots may still be reserved.
     pub(crate) fn free(&self) -> u32
-        ensures { result ≡ free (numbers self.now) }
+        ensures { result ≡ free self.now }
     {
-        self.size - self.waiting() - self.reserved
+        self.size - self.waiting() - self.producer.claimed
     }
 
     // Whether no slot may be reserved.
     pub(crate) fn is_full(&self) -> bool
-        ensures { MatchBool result (free (numbers self.now) ≡ 0) (0 < free (numbers self.now)) }
+        ensures { IsTrue result ↔ (free self.now ≡ 0) }
     {
         self.free() == 0
     }
@@ -53,56 +53,54 @@ impl Marks {
     pub(crate) fn reserved(&self) -> u32
         ensures { result ≡ self.now.reserved }
     {
-        self.reserved
+        self.producer.claimed
     }
 
     // How many entries were peeked.
     pub(crate) fn peeked(&self) -> u32
         ensures { result ≡ self.now.peeked }
     {
-        self.peeked
+        self.consumer.claimed
     }
 
-    // The slot of a mark inside the reserved span.
+    // The slot of a reserved mark.
     pub(crate) fn reserved_slot(&self, mark: u32) -> Result<usize, Refusal>
-        ensures { Finds (numbers self.now) mark self.now.producer self.now.reserved result }
+        ensures { Finds self.now mark self.now.producer self.now.reserved result }
     {
-        self.slot_inside(mark, self.producer, self.reserved)
+        self.slot_claimed(self.producer, mark)
     }
 
-    // The slot of a mark inside the peeked span.
+    // The slot of a peeked mark.
     pub(crate) fn peeked_slot(&self, mark: u32) -> Result<usize, Refusal>
-        ensures { Finds (numbers self.now) mark self.now.consumer self.now.peeked result }
+        ensures { Finds self.now mark self.now.consumer self.now.peeked result }
     {
-        self.slot_inside(mark, self.consumer, self.peeked)
+        self.slot_claimed(self.consumer, mark)
     }
 
-    // The slot of the waiting entry at a place, the oldest at 0.
-    pub(crate) fn waiting_slot(&self, place: u32) -> usize
-        requires { place < waiting (numbers self.now) }
-        ensures slot { result ≡ past self.now.consumer place % self.now.size }
-        ensures within { result < self.now.size }
+    // The slot at the consumer's mark, which the oldest waiting entry has.
+    pub(crate) fn oldest_slot(&self) -> usize
+        ensures slot { 0 < self.now.size → result ≡ self.now.consumer % self.now.size }
+        ensures within { result ≤ self.now.size }
     {
-        self.slot(self.consumer.wrapping_add(place))
+        self.slot(self.consumer.mark)
     }
 
-    // The slot of a mark inside the span of `count` marks from `first` on.
-    fn slot_inside(&self, mark: u32, first: u32, count: u32) -> Result<usize, Refusal>
-        requires { count ≤ self.now.size }
-        ensures { Finds (numbers self.now) mark first count result }
+    // The slot of a mark that the side claims.
+    fn slot_claimed(&self, side: Side, mark: u32) -> Result<usize, Refusal>
+        requires { side.claimed ≤ self.now.size }
+        ensures { Finds self.now mark side.mark side.claimed result }
     {
-        if mark.wrapping_sub(first) >= count {
+        if !side.claims(mark) {
             return Err(Refusal::OutsideSpan);
         }
         Ok(self.slot(mark))
     }
 
-    // The slot of a mark. The size is a power of two, so a mask gives the remainder.
+    // The slot of a mark, and 0 where there is none. The size is a power of two, so a mask gives the remainder.
     fn slot(&self, mark: u32) -> usize
-        requires { 0 < self.now.size }
-        ensures slot { result ≡ mark % self.now.size }
-        ensures within { result < self.now.size }
+        ensures slot { 0 < self.now.size → result ≡ mark % self.now.size }
+        ensures within { result ≤ self.now.size }
     {
-        (mark & (self.size - 1)) as usize
+        (mark & self.size.saturating_sub(1)) as usize
     }
 }

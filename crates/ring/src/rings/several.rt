@@ -1,46 +1,49 @@
-// Several entries at a time, all or none. The guard of a batch holds the marks while the slots are read, so the marks
-// are lent beside the ring and stored back.
-ghost use Rattle.std.specs.Prelude.{◌≡◌, ◌≤◌, length};
-ghost use Rattle.ring.specs.Rings.{listed, pair_of, Takes, TakesInto};
-ghost use Rattle.ring.specs.Shows.{beside, state_of};
+// Several entries at a time, all or none: a batch is peeked, read and released, and put back where it is left before.
+ghost use Rattle.ring.specs.Rings.{Sound, listed, pair_of, PeekedTo, Takes, TakesInto};
 
 use super::Ring;
-use crate::batches::{take_exact, take_pair};
-use crate::marks::Marks;
+use super::batches::Batch;
 use umem::refusal::Refusal;
 
 impl<'a, E: Copy> Ring<'a, E> {
-    // Takes the two oldest entries out, or none where fewer wait.
+    // Takes the two oldest entries out, or none where fewer wait: `?` ends the batch then, and the one that waits stays.
     pub fn pop_pair(&mut self) -> Result<(E, E), Refusal>
-        ensures { Takes (state_of self.old) 2 (listed pair_of result) (state_of self.new) }
+        ensures { Takes self.old 2 (listed pair_of result) self.new }
     {
-        let mut marks = self.marks;
-        let pair = self.pair_by(&mut marks);
-        self.marks = marks;
-        pair
+        let oldest = self.consumer();
+        let count = self.peek_to(2);
+        let batch = Batch { ring: self, count };
+        let first = batch.ring.get(oldest)?;
+        let second = batch.ring.get(oldest.wrapping_add(1))?;
+        batch.ring.release(2)?;
+        Ok((first, second))
     }
 
-    // Takes the oldest entries out, as many as `out` takes, or none where fewer wait.
+    // Takes the oldest entries out, as many as `out` takes, or none where fewer wait: the batch is left then, before
+    // anything is copied.
     pub fn pop_exact(&mut self, out: &mut [E]) -> Result<(), Refusal>
-        ensures { TakesInto (state_of self.old) out.old result out.new (state_of self.new) }
+        ensures { TakesInto self.old out.old result out.new self.new }
     {
-        let mut marks = self.marks;
-        let taken = self.exact_by(&mut marks, out);
-        self.marks = marks;
-        taken
+        if out.len() > self.size() as usize {
+            return Err(Refusal::OutsideSpan);
+        }
+        let wanted = out.len() as u32;
+        let count = self.peek_to(wanted);
+        let batch = Batch { ring: self, count };
+        if batch.ring.len() < wanted {
+            return Err(Refusal::OutsideSpan);
+        }
+        batch.ring.copy_oldest(out);
+        batch.ring.release(wanted)
     }
 
-    fn pair_by(&self, marks: &mut Marks) -> Result<(E, E), Refusal>
-        requires { marks.old.size ≤ length self.now.slots.now }
-        ensures { Takes (beside marks.old self.now.slots.now) 2 (listed pair_of result) (beside marks.new self.now.slots.now) }
+    // Peeks until so many entries are peeked, those that were before among them, or all that wait: how many more.
+    fn peek_to(&mut self, wanted: u32) -> u32
+        ensures sound { Sound self.old }
+        ensures peeked { PeekedTo self.old wanted result self.new }
     {
-        take_pair(self.slots, marks)
-    }
-
-    fn exact_by(&self, marks: &mut Marks, out: &mut [E]) -> Result<(), Refusal>
-        requires { marks.old.size ≤ length self.now.slots.now }
-        ensures { TakesInto (beside marks.old self.now.slots.now) out.old result out.new (beside marks.new self.now.slots.now) }
-    {
-        take_exact(self.slots, marks, out)
+        let seen = self.marks.peeked();
+        let (count, _) = self.peek(wanted.saturating_sub(seen));
+        count
     }
 }

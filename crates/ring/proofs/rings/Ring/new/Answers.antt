@@ -1,8 +1,6 @@
-use Rattle.std.proofs.Common.{refl}
-use Rattle.ring.proofs.Steps.{sound_beside, fresh_lists}
+use Rattle.std.proofs.Common.{rules}
+use Rattle.ring.proofs.Steps.{made}
 use Rattle.ring.proofs.rings.Ring.new.Goals as goal
 
 pub returns : goal.returns
-returns g c =
-    let lists = fresh_lists _ (sound_beside c.new-marks.result c.args.slots.now c.new-marks.ensures.size.held) c.args.start c.new-marks.ensures.fresh in
-    record { size = c.new-marks.ensures.size; fresh = c.new-marks.ensures.fresh; memory = refl; waits = lists.0; drafts = lists.1 }
+returns g c = made _ (search rules) c.args.start c.new-marks.ensures.fresh c.new-marks.ensures.size

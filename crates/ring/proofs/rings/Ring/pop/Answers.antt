@@ -1,19 +1,20 @@
-use Rattle.std.proofs.Common.{◌<◌, refl, arith}
-use Rattle.std.proofs.lemmas.List.{nil_from_length}
-use Rattle.ring.specs.Marks.{numbers, waiting}
+use Rattle.std.proofs.Common.{◌<◌, length, ap, ◌∙◌, get_or, arith}
+use Rattle.std.proofs.lemmas.List.{get_or_default}
+use Rattle.ring.specs.Marks.{waiting}
 use Rattle.ring.proofs.Inside.{served}
-use Rattle.ring.proofs.Single.{popped}
-use Rattle.ring.proofs.Steps.{sound_of, length-queue}
+use Rattle.ring.proofs.Steps.{popped, none_popped}
 use Rattle.ring.proofs.rings.Ring.pop.Goals as goal
 
 pub returns-then-waiting-eq0 : goal.returns-then-waiting-eq0
-returns-then-waiting-eq0 g c = (nil_from_length _ (omega (arith, length-queue _ (sound_of c.args.self.now))), refl)
-
-pub waiting_at-oldest-requires : goal.waiting_at-oldest-requires
-waiting_at-oldest-requires g c = omega (arith, length-queue _ (sound_of c.args.self.now))
+returns-then-waiting-eq0 g c =
+    let none = none_popped _ c.self.invariant (omega arith) in
+    rw (← c.self.view_is) (record { popped = none.0; one = none.1 })
 
 pub returns : goal.returns
 returns g c =
-    let s = c.args.self.now in
-    let l : 0 < waiting (numbers s.marks) = omega arith in
-    popped _ _ c.waiting_at-oldest.result (sound_of s) l c.waiting_at-oldest.ensures (served _ _ _ c.consume.result c.consume.ensures (λ q. omega arith)) refl
+    let some : 0 < waiting c.self.inside.marks = omega arith in
+    let within : c.oldest_slot.result < length c.self.inside.slots.now = omega arith in
+    let one =
+    popped _ c.self.invariant _ _ some (λ d. get_or_default _ _ _ d within ∙ ap (λ i. get_or c.self.inside.slots.now i d) (c.oldest_slot.ensures.slot (omega arith)))
+    (served _ _ _ c.consume.result c.consume.ensures (λ few. omega arith)) in
+    rw (← c.self.view_is) (record { popped = one.1.1; one = one })

@@ -1,6 +1,5 @@
-use Rattle.std.proofs.Common.{refl}
-use Rattle.ring.proofs.Steps.{sound_of, reserved}
+use Rattle.ring.proofs.Steps.{reserved}
 use Rattle.ring.proofs.rings.Ring.reserve.Goals as goal
 
 pub returns : goal.returns
-returns g c = reserved _ (sound_of c.args.self.now) _ c.args.n c.reserve.result c.reserve.ensures refl
+returns g c = rw (← c.self.view_is) (reserved _ c.self.invariant _ _ _ c.reserve.ensures)

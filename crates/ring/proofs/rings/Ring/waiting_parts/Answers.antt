@@ -1,0 +1,15 @@
+use Rattle.std.proofs.Common.{arith}
+use Rattle.ring.proofs.Parts.{span_parts}
+use Rattle.ring.proofs.Steps.{length-queue}
+use Rattle.ring.proofs.rings.Ring.waiting_parts.Goals as goal
+
+pub returns : goal.returns
+returns g c =
+    let r = c.self.inside in
+    rw (← c.self.view_is, c.waiting-waiting.ensures)
+    (record {
+      parts =
+          span_parts r.marks.size r.marks.consumer _ _ _ _ r.slots.now _ _ c.size-size.ensures c.oldest_slot.ensures.slot (omega arith)
+          c.split_at.ensures.front c.split_at.ensures.back (omega arith);
+      few = omega (arith, length-queue _ c.self.invariant);
+    })
