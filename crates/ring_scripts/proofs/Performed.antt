@@ -1,16 +1,13 @@
 -- A call that was made, under another name for the call or the answer.
-use Rattle.std.proofs.Common.{◌≡◌, ℕ, ◌+◌, ◌^◌, ◌<◌, List, [], ◌∷◌, ◌++◌, reverse, length, get_or, take, Some, None, Ok, Err, Option, Result, sym, refl, ap, ◌∙◌, subst, arith}
+use Rattle.std.proofs.Common.{◌≡◌, ℕ, ◌+◌, ◌^◌, ◌<◌, List, [], ◌∷◌, ◌++◌, reverse, length, get_or, take, Some, None, Ok, Err, Option, Result, sym, refl, ap, ◌∙◌, subst}
 use Rattle.std.specs.Result.{MatchResult, IsOkAnd, result_map_both}
 use Rattle.std.proofs.lemmas.List.{append-nil, take_more, reverse-append}
 use Rattle.umem.specs.declared.refusal.Refusal.{Refusal}
-use Rattle.umem.specs.declared.refusal.Refusal.TheVariants.{OutsideSpan}
 use Rattle.ring_scripts.specs.declared.Call.{Call}
 use Rattle.ring_scripts.specs.declared.Answer.{Answer}
-use Rattle.ring_scripts.specs.declared.Answer.TheVariants.{Popped}
-use Rattle.ring.specs.Rings.{State, queue, Made, Taken, Pops}
-use Rattle.ring.specs.Runs.{Event, Take, Step, Past, new, more}
-use Rattle.ring_scripts.specs.Scripts.{Of, answer_of, Performs, EachOf, Continues, Session}
-use Rattle.ring.proofs.Steps.{Sound, length-queue}
+use Rattle.ring.specs.Rings.{State, queue, Made, one_of}
+use Rattle.ring.specs.Runs.{Event, Step, Past, new, more}
+use Rattle.ring_scripts.specs.Scripts.{Of, answer_of, popped, Performs, EachOf, Continues, Session}
 use Rattle.ring.proofs.Theorem.{every_run}
 
 pub performs :
@@ -26,24 +23,10 @@ mapped f (Ok x) (Ok b) h = ap Ok h
 mapped f (Ok x) (Err e) h = absurd h
 mapped f (Err e) s h = h
 
--- a pop is a take of one
-pub one_taken : {E : Type 0} (s t : State E) (e : E) → Sound s → Taken s (e ∷ []) t → Step s (Take 1 (Ok (e ∷ []))) t
-one_taken s t e ok h =
-    let long = length-queue s ok in
-    let more = ap length h.waits in
-    (λ _ few. omega (arith, few.1), (refl, h))
-
-pub none_taken : {E : Type 0} (s t : State E) → Sound s → (queue s ≡ []) × (t ≡ s) → Step s (Take 1 (Err OutsideSpan)) t
-none_taken s t ok h =
-    let long = length-queue s ok in
-    let none = ap length h.0 in
-    (((refl, omega arith), λ m x. omega (arith, x.0)), h.1)
-
-pub popped_step :
-    {E : Type 0} (s : State E) (o : Option E) (t : State E) → Sound s → Pops s o t
-    → (r : Result (List E) Refusal) × Step s (Take 1 r) t × (Ok (Popped o) ≡ answer_of (Take 1 r))
-popped_step s (Some e) t ok h = (Ok (e ∷ []), one_taken s t e ok h, refl)
-popped_step s None t ok h = (Err OutsideSpan, none_taken s t ok h, refl)
+-- what a pop tells, read back from the taking of one
+pub popped_one : {E : Type 0} (o : Option E) → popped (one_of o) ≡ o
+popped_one (Some e) = refl
+popped_one None = refl
 
 -- one call more of a run
 pub continues_more :

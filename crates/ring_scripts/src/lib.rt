@@ -2,7 +2,6 @@
 #![tactic(auto)]
 
 ghost use Rattle.std.specs.Prelude.{◌≡◌};
-ghost use Rattle.ring.specs.Shows.{state_of};
 ghost use Rattle.ring_scripts.specs.Scripts.{Performs, Continues, Session};
 
 use ring::Ring;
@@ -38,7 +37,7 @@ pub enum Answer<E> {
 
 // Makes one call.
 pub fn perform<E: Copy>(ring: &mut Ring<E>, call: Call<E>) -> Result<Answer<E>, Refusal>
-    ensures { Performs (state_of ring.old) call result (state_of ring.new) }
+    ensures { Performs ring.old call result ring.new }
 {
     match call {
         Call::Reserve(n) => {
@@ -62,7 +61,7 @@ pub fn perform<E: Copy>(ring: &mut Ring<E>, call: Call<E>) -> Result<Answer<E>, 
 
 // Makes each call in turn. Every past of the ring goes on by just these calls.
 pub fn run<E: Copy>(ring: &mut Ring<E>, calls: &[Call<E>])
-    ensures { Continues (state_of ring.old) calls.now (state_of ring.new) }
+    ensures { Continues ring.old calls.now ring.new }
 {
     for call in calls {
         let _ = perform(ring, *call);

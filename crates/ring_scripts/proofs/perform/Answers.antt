@@ -1,8 +1,8 @@
-use Rattle.std.proofs.Common.{refl}
+use Rattle.std.proofs.Common.{Ok, Option, sym, ap, refl}
 use Rattle.ring.specs.Runs.{Reserve, Put, Submit, Withdraw, Peek, Get, Cancel, Release, Push, Take}
-use Rattle.ring.proofs.Steps.{sound_of}
-use Rattle.ring_scripts.specs.declared.Answer.TheVariants.{Entry}
-use Rattle.ring_scripts.proofs.Performed.{performs, mapped, popped_step}
+use Rattle.ring.specs.Rings.{one_of}
+use Rattle.ring_scripts.specs.declared.Answer.TheVariants.{Entry, Popped}
+use Rattle.ring_scripts.proofs.Performed.{performs, mapped, popped_one}
 use Rattle.ring_scripts.proofs.perform.Goals as goal
 
 pub returns-in-Reserve : goal.returns-in-Reserve
@@ -35,5 +35,5 @@ returns-in-Get g c =
 
 pub returns-in-Pop : goal.returns-in-Pop
 returns-in-Pop g c =
-    let h = popped_step _ c.pop.result _ (sound_of c.args.ring.now) c.pop.ensures in
-    performs _ _ _ _ _ (Take 1 h.0) c.in-Pop.is h.1 (h.0, refl) h.2
+    let o = c.pop.result in
+    performs _ _ _ _ _ (Take 1 (one_of o)) c.in-Pop.is c.pop.ensures.one (one_of o, refl) (sym (ap (λ (x : Option _). Ok (Popped x)) (popped_one o)))

@@ -1,7 +1,6 @@
 use Rattle.std.proofs.Common.{take}
 use Rattle.ring_scripts.specs.Scripts.{Continues}
-use Rattle.ring.specs.Shows.{state_of}
 use Rattle.ring_scripts.proofs.run.Given as goal
 
 abbrev pub invariant-loop-call : goal.invariant-loop-call
-invariant-loop-call g l = Continues (state_of l.initial.ring) (take l.call-index l.calls) (state_of l.ring)
+invariant-loop-call g l = Continues l.initial.ring (take l.call-index l.calls) l.ring
