@@ -3,7 +3,7 @@ use Rattle.std.proofs.Common.{◌≡◌, ℕ, zero, suc, ◌+◌, ◌-◌, ◌*�
 use Rattle.std.proofs.lemmas.List.{append_assoc, take-take, drop-take, drop-drop, length-take-le, length-drop}
 use Rattle.model.specs.Traces.{word, table}
 use Rattle.model.proofs.Packing.{all}
-use Rattle.trace.specs.declared.store.Pair.{Pair}
+use Rattle.trace.specs.declared.pairs.Pair.{Pair}
 use Rattle.trace.specs.Pairs.{cut, offset_of, length_of, offsets, rows, Gapless, Sized}
 
 -- the same, step by step

@@ -1,4 +1,3 @@
-pub mod Adding
 pub mod Chains
 pub mod FourBytes
 pub mod Held

@@ -5,7 +5,7 @@ use Rattle.umem.specs.Frames.{written}
 use Rattle.umem.proofs.Written.{written_more}
 use Rattle.model.specs.Traces.{word, table, packed, file, Traceable, Throughout, RecordLength}
 use Rattle.model.proofs.Packing.{all, start}
-use Rattle.trace.specs.declared.store.Pair.{Pair}
+use Rattle.trace.specs.declared.pairs.Pair.{Pair}
 use Rattle.trace.specs.Pairs.{cut, cut_records, rows, Listed}
 use Rattle.trace.proofs.Chains.{Chained, chained, chained_below, ends_within, parts_joined, cut_long, rows_table}
 use Rattle.trace.proofs.Held.{laid_all, records_fit}

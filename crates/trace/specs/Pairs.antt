@@ -2,7 +2,7 @@
 use Rattle.std.specs.Prelude.{◌≡◌, ℕ, ◌+◌, ◌≤◌, List, [], ◌∷◌, ◌++◌, map, length, take, drop}
 use Rattle.std.specs.List.{flat_map}
 use Rattle.model.specs.Traces.{Record, record_of, word, Throughout, RecordLength}
-use Rattle.trace.specs.declared.store.Pair.{Pair}
+use Rattle.trace.specs.declared.pairs.Pair.{Pair}
 
 -- the bytes that a pair names
 abbrev pub cut : List ℕ → Pair → List ℕ

@@ -1,7 +1,7 @@
 // The worked values of trace files, and files that are none.
 use crate::layout::Record;
+use crate::pairs::Pair;
 use crate::recording::Recording;
-use crate::store::Pair;
 use crate::traces::Trace;
 use std::alloc::Global;
 use std::test::Fail;

@@ -5,7 +5,7 @@ ghost use Rattle.umem.specs.Frames.{written};
 ghost use Rattle.trace.specs.Pairs.{cut_records, rows, Listed};
 ghost use Rattle.trace.specs.Writing.{Writes};
 
-use crate::store::Pair;
+use crate::pairs::Pair;
 use crate::words::{put, word_of};
 use umem::refusal::Refusal;
 

@@ -1,7 +1,7 @@
 use Rattle.std.proofs.Common.{◌+◌, ◌*◌, List, length, ap, ◌∙◌}
 use Rattle.std.proofs.lemmas.List.{take_all}
 use Rattle.umem.specs.Frames.{written}
-use Rattle.trace.specs.declared.store.Pair.{Pair}
+use Rattle.trace.specs.declared.pairs.Pair.{Pair}
 use Rattle.trace.specs.Pairs.{rows}
 use Rattle.trace.proofs.Rows.{row_written}
 use Rattle.trace.proofs.writing.put_table.Goals as goal
