@@ -1,21 +1,24 @@
--- What holds of a trace that reading accepted.
-use Rattle.std.proofs.Common.{◌≡◌, ℕ, ◌+◌, ◌-◌, ◌*◌, ◌<◌, ◌≤◌, List, [], ◌∷◌, map, length, get_or, take, drop, Some, None, Option, sym, refl, ap, ◌∙◌, subst, arith, MatchOption}
+-- What holds of a trace, and of the rows of its table.
+use Rattle.std.proofs.Common.{◌≡◌, ℕ, zero, suc, ◌+◌, ◌-◌, ◌*◌, ◌^◌, ◌<◌, ◌≤◌, List, [], ◌∷◌, map, length, get_or, take, drop, Some, None, Option, sym, refl, ap, ◌∙◌, subst, arith, MatchOption}
 use Rattle.std.specs.Option.{option_map}
 use Rattle.std.specs.List.{slice_get}
-use Rattle.std.proofs.lemmas.List.{length-map, length-drop, get_or-map}
+use Rattle.std.proofs.lemmas.List.{length-map, length-drop, get_or-map, take-take, drop-take, drop-drop}
 use Rattle.std.proofs.lemmas.List.FromFn.{length-map-range_with_len, get_or-map-range_with_len}
-use Rattle.std.proofs.lemmas.Option.{slice_get-get_or, slice_get_past}
-use Rattle.model.specs.Traces.{Record, laid, record_of, part_at, parts_in, packed, word_at, Traceable, Throughout, RecordLength}
-use Rattle.model.proofs.Packing.{Packable, told, length-packed}
+use Rattle.std.proofs.lemmas.Option.{slice_get-get_or}
+use Rattle.model.specs.Traces.{Record, laid, record_of, part_at, parts_in, packed, value, word, word_at, Traceable, Throughout, RecordLength}
+use Rattle.std.specs.Simd.{first_chunks}
+use Rattle.model.proofs.Packing.{Packable, told, value_low}
 use Rattle.trace.specs.declared.layout.Record.{Record as View}
-use Rattle.trace.specs.declared.traces.Trace.{Trace}
-use Rattle.trace.specs.Meanings.{meant, records_of, Accepted}
+use Rattle.trace.specs.declared.pairs.Pair.{Pair}
+use Rattle.trace.specs.Files.{records_in, IsTrace}
+use Rattle.trace.specs.Meanings.{meant}
+use Rattle.trace.specs.Pairs.{row_of}
 
 pub length-parts_in : (bytes : List ℕ) (n : ℕ) → length (parts_in bytes n) ≡ n
 length-parts_in bytes n = length-map-range_with_len (part_at bytes) 0 n
 
-pub length-records_of : (t : Trace) → length (records_of t) ≡ t.count
-length-records_of t = length-map (parts_in t.file.now t.count) record_of ∙ length-parts_in t.file.now t.count
+pub length-records_in : (bytes : List ℕ) (n : ℕ) → length (records_in bytes n) ≡ n
+length-records_in bytes n = length-map (parts_in bytes n) record_of ∙ length-parts_in bytes n
 
 -- PARTS AND RECORDS
 
@@ -59,73 +62,110 @@ records_fit ps f h =
 
 -- A TRACE
 
-module _ (t : Trace) (whole : Accepted t) where
-  pub trace_packable : Packable (parts_in t.file.now t.count)
+module _ (bytes : List ℕ) (n : ℕ) (whole : IsTrace bytes n) where
+  pub trace_packable : Packable (parts_in bytes n)
   trace_packable =
-      let l = length-records_of t in
-      let m = length-parts_in t.file.now t.count in
+      let l = length-records_in bytes n in
+      let m = length-parts_in bytes n in
       let f = whole.fits.few in
-      record { few = omega arith; sized = parts_sized (parts_in t.file.now t.count) whole.fits }
+      record { few = omega arith; sized = parts_sized (parts_in bytes n) whole.fits }
 
-  pub trace_exact : packed (parts_in t.file.now t.count) ≡ t.file.now
-  trace_exact = ap packed (sym (laid_all (parts_in t.file.now t.count) trace_packable.sized)) ∙ whole.exact
-
-  -- the table lies in the file
-  pub table_within : 4 + 8 * t.count ≤ length t.file.now
-  table_within =
-      let l = length-parts_in t.file.now t.count in
-      let p = length-packed (parts_in t.file.now t.count) in
-      let e = ap length trace_exact in
-      omega arith
+  pub trace_exact : packed (parts_in bytes n) ≡ bytes
+  trace_exact = ap packed (sym (laid_all (parts_in bytes n) trace_packable.sized)) ∙ whole.exact
 
   -- part i lies in the file
-  pub part_within : (i : ℕ) → i < t.count → word_at t.file.now (4 + 8 * i) + word_at t.file.now (8 + 8 * i) ≤ length t.file.now
+  pub part_within : (i : ℕ) → i < n → word_at bytes (4 + 8 * i) + word_at bytes (8 + 8 * i) ≤ length bytes
   part_within i h =
-      let ps = parts_in t.file.now t.count in
-      let l = length-parts_in t.file.now t.count in
+      let ps = parts_in bytes n in
+      let l = length-parts_in bytes n in
       let w = told ps i (omega arith) trace_packable in
       let o = w.offset in
       let n = w.long in
       let b = w.within in
-      let P : List ℕ → Type 0 = λ bytes. word_at bytes (4 + 8 * i) + word_at bytes (8 + 8 * i) ≤ length bytes in
+      let P : List ℕ → Type 0 = λ bs. word_at bs (4 + 8 * i) + word_at bs (8 + 8 * i) ≤ length bs in
       subst P trace_exact (omega arith)
 
-  pub part_sized : (i : ℕ) → i < t.count → RecordLength (length (part_at t.file.now i))
+  pub part_sized : (i : ℕ) → i < n → RecordLength (length (part_at bytes i))
   part_sized i h =
-      let l = length-parts_in t.file.now t.count in
+      let l = length-parts_in bytes n in
       let P : List ℕ → Type 0 = λ p. RecordLength (length p) in
-      subst P (get_or-map-range_with_len (part_at t.file.now) 0 t.count i i [] h (omega arith)) (trace_packable.sized i [] (omega arith))
+      subst P (get_or-map-range_with_len (part_at bytes) 0 n i i [] h (omega arith)) (trace_packable.sized i [] (omega arith))
 
-pub no_record : (t : Trace) (i : ℕ) → t.count ≤ i → None ≡ slice_get (records_of t) i
-no_record t i h = let l = length-records_of t in sym (slice_get_past (records_of t) i (omega arith))
-
-pub record_at : (t : Trace) (i : ℕ) → i < t.count → slice_get (records_of t) i ≡ Some (record_of (part_at t.file.now i))
-record_at t i h =
-    let l = length-records_of t in
-    let n = length-parts_in t.file.now t.count in
+pub record_at : (bytes : List ℕ) (n i : ℕ) → i < n → slice_get (records_in bytes n) i ≡ Some (record_of (part_at bytes i))
+record_at bytes n i h =
+    let l = length-records_in bytes n in
+    let m = length-parts_in bytes n in
     let d = record_of [] in
-    slice_get-get_or (records_of t) i d (omega arith)
-    ∙ ap Some (get_or-map record_of (parts_in t.file.now t.count) i [] d (omega arith)
-    ∙ ap record_of (get_or-map-range_with_len (part_at t.file.now) 0 t.count i i [] h (omega arith)))
+    slice_get-get_or (records_in bytes n) i d (omega arith)
+    ∙ ap Some (get_or-map record_of (parts_in bytes n) i [] d (omega arith)
+    ∙ ap record_of (get_or-map-range_with_len (part_at bytes) 0 n i i [] h (omega arith)))
 
 -- bytes that are parsed show the record that they lay out
-parsed : (v : Option View) (bytes : List ℕ) → 1 ≤ length bytes → MatchOption v (length bytes ≡ 0) (λ x. laid (meant x) ≡ bytes) → option_map meant v ≡ Some (record_of bytes)
+pub parsed : (v : Option View) (bytes : List ℕ) → 1 ≤ length bytes → MatchOption v (length bytes ≡ 0) (λ x. laid (meant x) ≡ bytes) → option_map meant v ≡ Some (record_of bytes)
 parsed None bytes h e = absurd (omega arith)
 parsed (Some x) bytes h e = ap (λ (bs : List ℕ). Some (record_of bs)) e
 
--- what is parsed from the place that pair i names is record i
+-- ROWS
+
+-- row i of a table is eight bytes of it
+pub row_at : (k : ℕ) (xs : List ℕ) (i : ℕ) (d : List ℕ) → i < k → get_or (first_chunks 8 k xs) i d ≡ take 8 (drop (8 * i) xs)
+row_at zero xs i d h = absurd (omega arith)
+row_at (suc k) xs zero d h = refl
+row_at (suc k) xs (suc i) d h =
+    let z : 8 + 8 * i ≡ 8 * suc i = omega arith in
+    row_at k (drop 8 xs) i d (omega arith) ∙ ap (take 8) (drop-drop (8 * i) 8 xs ∙ ap (λ (m : ℕ). drop m xs) z)
+
+-- a number is what its four bytes say
+pub number_said : (n : ℕ) (bs : List ℕ) → n < 2 ^ 32 → word n ≡ bs → n ≡ value bs
+number_said n bs h e = sym (value_low 4 n (omega arith)) ∙ ap value e
+
+-- row i of a file says this pair
+pub record Said (bytes : List ℕ) (i : ℕ) (p : Pair) : Type 0 where
+  pub offset : p.offset ≡ word_at bytes (4 + 8 * i)
+  pub offset_word : word p.offset ≡ take 4 (drop (4 + 8 * i) bytes)
+  pub long : p.length ≡ word_at bytes (8 + 8 * i)
+  pub long_word : word p.length ≡ take 4 (drop (8 + 8 * i) bytes)
+
+pub said :
+    (bytes : List ℕ) (rows : List (List ℕ)) (i : ℕ) (d : List ℕ) (p : Pair) →
+    rows ≡ first_chunks 8 (length rows) (drop 4 bytes) →
+    i < length rows →
+    p.offset < 2 ^ 32 →
+    p.length < 2 ^ 32 →
+    row_of p ≡ get_or rows i d →
+    Said bytes i p
+said bytes rows i d p listed h fo fl e =
+    let r : row_of p ≡ take 8 (drop (4 + 8 * i) bytes) =
+    e
+    ∙ ap (λ (rs : List (List ℕ)). get_or rs i d) listed
+    ∙ row_at (length rows) (drop 4 bytes) i d h
+    ∙ ap (take 8) (drop-drop (8 * i) 4 bytes)
+    in
+    let o : word p.offset ≡ take 4 (drop (4 + 8 * i) bytes) = ap (take 4) r ∙ take-take 4 8 (drop (4 + 8 * i) bytes) (omega arith) in
+    let z : 4 + 8 * i + 4 ≡ 8 + 8 * i = omega arith in
+    let l : word p.length ≡ take 4 (drop (8 + 8 * i) bytes) =
+    ap (drop 4) r ∙ drop-take 4 4 (drop (4 + 8 * i) bytes) ∙ ap (take 4) (drop-drop 4 (4 + 8 * i) bytes ∙ ap (λ (k : ℕ). drop k bytes) z)
+    in
+    record {
+      offset = number_said p.offset _ fo o;
+      offset_word = o;
+      long = number_said p.length _ fl l;
+      long_word = l;
+    }
+
+-- what is parsed from the place that row i says is record i
 pub shown :
-    (t : Trace) (i o n : ℕ) (v : Option View) →
-    i < t.count →
-    o ≡ word_at t.file.now (4 + 8 * i) →
-    n ≡ word_at t.file.now (8 + 8 * i) →
-    MatchOption v (length (take (o + n - o) (drop o t.file.now)) ≡ 0) (λ x. laid (meant x) ≡ take (o + n - o) (drop o t.file.now)) →
-    Accepted t →
-    option_map meant v ≡ slice_get (records_of t) i
-shown t i o n v h p q e whole =
-    let bytes = t.file.now in
-    let z : o + n - o ≡ n = omega arith in
-    let w : take (o + n - o) (drop o bytes) ≡ part_at bytes i = ap (λ (k : ℕ). take k (drop o bytes)) (z ∙ q) ∙ ap (λ (k : ℕ). take (word_at bytes (8 + 8 * i)) (drop k bytes)) p in
+    (bytes : List ℕ) (n i : ℕ) (p : Pair) (v : Option View) →
+    IsTrace bytes n →
+    i < n →
+    Said bytes i p →
+    MatchOption v (length (take (p.offset + p.length - p.offset) (drop p.offset bytes)) ≡ 0) (λ x. laid (meant x) ≡ take (p.offset + p.length - p.offset) (drop p.offset bytes)) →
+    option_map meant v ≡ slice_get (records_in bytes n) i
+shown bytes n i p v whole h s e =
+    let z : p.offset + p.length - p.offset ≡ p.length = omega arith in
+    let w : take (p.offset + p.length - p.offset) (drop p.offset bytes) ≡ part_at bytes i =
+    ap (λ (k : ℕ). take k (drop p.offset bytes)) (z ∙ s.long) ∙ ap (λ (k : ℕ). take (word_at bytes (8 + 8 * i)) (drop k bytes)) s.offset
+    in
     let P : List ℕ → Type 0 = λ bs. MatchOption v (length bs ≡ 0) (λ x. laid (meant x) ≡ bs) in
-    let s = part_sized t whole i h in
-    parsed v (part_at bytes i) (omega arith) (subst P w e) ∙ sym (record_at t i h)
+    let l = part_sized bytes n whole i h in
+    parsed v (part_at bytes i) (omega arith) (subst P w e) ∙ sym (record_at bytes n i h)

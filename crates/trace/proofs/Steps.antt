@@ -1,12 +1,14 @@
 -- The steps of reading: what each one finds of the file, and that a file of records passes them all.
-use Rattle.std.proofs.Common.{◌≡◌, ℕ, ◌+◌, ◌-◌, ◌*◌, ◌<◌, ◌≤◌, List, [], ◌∷◌, ◌++◌, map, length, take, drop, sym, ap, ◌∙◌, subst, ⊎_elim, arith, take-add}
+use Rattle.std.proofs.Common.{◌≡◌, ℕ, zero, suc, ◌+◌, ◌-◌, ◌*◌, ◌/◌, ◌<◌, ◌≤◌, List, [], ◌∷◌, ◌++◌, map, length, take, drop, sym, refl, ap, ◌∙◌, subst, ⊎_elim, arith, take-add}
 use Rattle.std.proofs.lemmas.List.{append-nil, take_all, take-append-drop, drop-drop, length-take-le, length-append, length_push, length-map, length-drop, get_or_append_left, get_or_push}
 use Rattle.std.proofs.lemmas.List.FromFn.{map-range_with_len_more}
 use Rattle.std.proofs.lemmas.Bool.{cases_lt}
 use Rattle.model.specs.Traces.{Record, Traceable, Throughout, RecordLength, laid, file, word, word_at, table, packed, part_at, parts_in}
 use Rattle.model.proofs.Packing.{told, all, start, packable, all_append, table_append, length-packed, parts_back, count_back}
-use Rattle.trace.specs.Reading.{NoRecords, Headed, Right}
-use Rattle.trace.proofs.Held.{length-parts_in}
+use Rattle.std.specs.Simd.{first_chunks}
+use Rattle.trace.specs.declared.pairs.Pair.{Pair}
+use Rattle.trace.specs.Files.{NoRecords, Headed, FollowsOn, Right}
+use Rattle.trace.proofs.Held.{length-parts_in, number_said, Said}
 
 pub throughout_push : {A : Type 0} (P : A → Type 0) (xs : List A) (x : A) → Throughout P xs → P x → Throughout P (xs ++ x ∷ [])
 throughout_push P xs x h p k d l =
@@ -67,19 +69,48 @@ wrong_head bytes wrong rs t e =
     let p = subst P e (file_count rs t, file_long rs t) in
     wrong p.0 p.1
 
-module _ (bytes : List ℕ) (count : ℕ) (head : Headed bytes count) where
+-- the first chunks are the first ones of more
+chunks_taken : (n k m : ℕ) (xs : List ℕ) → k ≤ m → take k (first_chunks n m xs) ≡ first_chunks n k xs
+chunks_taken n zero m xs h = refl
+chunks_taken n (suc k) zero xs h = absurd (omega arith)
+chunks_taken n (suc k) (suc m) xs h = ap (λ (cs : List (List ℕ)). take n xs ∷ cs) (chunks_taken n k m (drop n xs) (omega arith))
+
+-- a count and its rows are read from the front of a file
+pub headed :
+    (bytes count rest : List ℕ) (rows : List (List ℕ)) (n : ℕ) →
+    (count ≡ take 4 bytes) × (rest ≡ drop 4 bytes) × (length rest + 4 ≡ length bytes) →
+    word n ≡ count →
+    rows ≡ first_chunks 8 (length rest / 8) rest →
+    length rows ≡ length rest / 8 →
+    n ≤ 1024 →
+    n ≤ length rows →
+    Headed bytes (take n rows)
+headed bytes count rest rows n (front, back, long) said cut many few inside =
+    let l = length-take-le n rows inside in
+    let w : word n ≡ take 4 bytes = said ∙ front in
+    let v = number_said n (take 4 bytes) (omega arith) w in
+    let t = chunks_taken 8 n (length rest / 8) rest (omega arith) in
+    record {
+      few = omega arith;
+      value = l ∙ v;
+      bytes_of = ap word l ∙ w;
+      long = omega arith;
+      listed = ap (take n) cut ∙ t ∙ ap (first_chunks 8 n) back ∙ ap (λ (k : ℕ). first_chunks 8 k (drop 4 bytes)) (sym l);
+    }
+
+module _ (bytes : List ℕ) (rows : List (List ℕ)) (head : Headed bytes rows) where
+  abbrev count : ℕ
+  count = length rows
+
   -- pair i is not the one of a part that begins where its forerunner ended
-  pub wrong_pair :
-      (i end : ℕ) →
-      i < count →
-      Right bytes count i end →
-      ((word_at bytes (4 + 8 * i) ≡ end) → RecordLength (word_at bytes (8 + 8 * i)) → end + word_at bytes (8 + 8 * i) ≤ length bytes → ⊥) →
-      NoRecords bytes
-  wrong_pair i end l r wrong rs t e =
+  pub wrong_pair : (i end : ℕ) (p : Pair) → i < count → Right bytes count i end → Said bytes i p → ¬ (FollowsOn p end (length bytes)) → NoRecords bytes
+  wrong_pair i end p l r said wrong rs t e =
       let P : List ℕ → Type 0 = λ bs. count ≡ word_at bs 0 → end ≡ start count + length (all (parts_in bs i)) → (word_at bs (4 + 8 * i) ≡ end) × RecordLength (word_at bs (8 + 8 * i)) × (end + word_at bs (8 + 8 * i) ≤ length bs) in
       let passes : P (file rs) = λ c q. file_pair rs t i end (omega arith) (q ∙ ap (λ (n : ℕ). start n + length (all (parts_in (file rs) i))) c) in
       let p = subst P e passes head.value r.ends in
-      wrong p.0 p.1 p.2
+      let o = said.offset in
+      let n = said.long in
+      wrong (record { begins = omega arith; sized = (omega arith, omega arith); within = omega arith })
 
   -- the last part does not end the file
   pub wrong_end : (end : ℕ) → Right bytes count count end → (end ≡ length bytes → ⊥) → NoRecords bytes
@@ -91,17 +122,17 @@ module _ (bytes : List ℕ) (count : ℕ) (head : Headed bytes count) where
       wrong (omega arith)
 
   -- one part more is right
-  pub right_more :
-      (i end offset len : ℕ) →
-      i < count →
-      Right bytes count i end →
-      (offset ≡ word_at bytes (4 + 8 * i)) × (word offset ≡ take 4 (drop (4 + 8 * i) bytes)) →
-      (len ≡ word_at bytes (8 + 8 * i)) × (word len ≡ take 4 (drop (8 + 8 * i) bytes)) →
-      offset ≡ end →
-      RecordLength len →
-      end + len ≤ length bytes →
-      Right bytes count (i + 1) (end + len)
-  right_more i end offset len l r (ov, ow) (nv, nw) at fits inside =
+  pub right_more : (i end : ℕ) (pair : Pair) → i < count → Right bytes count i end → Said bytes i pair → FollowsOn pair end (length bytes) → Right bytes count (i + 1) (end + pair.length)
+  right_more i end pair l r said follows =
+      let at = follows.begins in
+      let fits = follows.sized in
+      let inside = follows.within in
+      let offset = pair.offset in
+      let len = pair.length in
+      let ov = said.offset in
+      let ow = said.offset_word in
+      let nv = said.long in
+      let nw = said.long_word in
       let s = start count in
       let xs = parts_in bytes i in
       let p = part_at bytes i in

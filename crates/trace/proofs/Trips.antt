@@ -8,7 +8,8 @@ use Rattle.model.specs.Traces.{Record, Traceable, parts_in, packed, file}
 use Rattle.model.proofs.Packing.{files_tell}
 use Rattle.trace.specs.declared.traces.Trace.{Trace}
 use Rattle.trace.specs.Meanings.{records_of, Accepted}
-use Rattle.trace.specs.Reading.{FoundNoTrace, ReadApplies, Reads, Headed, Right}
+use Rattle.trace.specs.Files.{FoundNoTrace, Headed, IsTrace, Right}
+use Rattle.trace.specs.Reading.{ReadApplies, Reads}
 use Rattle.trace.specs.Writing.{Writes, ReadsBack, Rewrites}
 use Rattle.trace.proofs.Held.{length-parts_in, laid_all, records_fit}
 use Rattle.trace.proofs.Steps.{right_exact}
@@ -24,13 +25,13 @@ broken bytes r e h is =
     let P : Result Trace Refusal → Type 0 = λ s. Reads bytes s × Rewrites bytes s in
     subst P (sym is) ((refused bytes e h, tt), tt)
 
--- a trace whose parts are right is accepted
-pub made : (t : Trace) (end : ℕ) → Headed t.file.now t.count → Right t.file.now t.count t.count end → end ≡ length t.file.now → Accepted t
-made t end head r e =
-    let ps = parts_in t.file.now t.count in
-    let n = length-parts_in t.file.now t.count in
+-- bytes whose parts are right, up to their end, are a trace
+pub made : (bytes : List ℕ) (rows : List (List ℕ)) (end : ℕ) → Headed bytes rows → Right bytes (length rows) (length rows) end → end ≡ length bytes → IsTrace bytes (length rows)
+made bytes rows end head r e =
+    let ps = parts_in bytes (length rows) in
+    let n = length-parts_in bytes (length rows) in
     let f = head.few in
-    record { fits = records_fit ps (omega arith) r.sized; exact = ap packed (laid_all ps r.sized) ∙ right_exact t.file.now t.count head end r e }
+    record { fits = records_fit ps (omega arith) r.sized; exact = ap packed (laid_all ps r.sized) ∙ right_exact bytes rows head end r e }
 
 pub served : (t : Trace) → Accepted t → NoneApplies (ReadApplies t.file.now)
 served t whole n (_, none) = none (records_of t) whole.fits whole.exact

@@ -1,3 +1,4 @@
+pub mod Files
 pub mod Meanings
 pub mod Pairs
 pub mod Reading

@@ -31,6 +31,10 @@ Gapless ps end = map offset_of ps ++ end ∷ [] ≡ offsets 0 (map length_of ps)
 abbrev pub Sized : List Pair → Type 0
 Sized ps = Throughout (λ p. RecordLength p.length) ps
 
+-- a pair as a row of a table: its two numbers
+abbrev pub row_of : Pair → List ℕ
+row_of p = word p.offset ++ word p.length
+
 -- the table of a trace file, whose records begin at a place
 abbrev pub rows : ℕ → List Pair → List ℕ
 rows place ps = flat_map (λ p. word (place + p.offset) ++ word p.length) ps

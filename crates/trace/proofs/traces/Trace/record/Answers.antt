@@ -1,14 +1,34 @@
-use Rattle.std.proofs.Common.{arith}
-use Rattle.trace.proofs.Held.{no_record, shown, table_within, part_within}
+use Rattle.std.proofs.Common.{◌<◌, length, sym, ◌∙◌, arith, ltb-true, ltb-false}
+use Rattle.std.proofs.lemmas.Option.{slice_get_past}
+use Rattle.trace.specs.Meanings.{records_of}
+use Rattle.trace.proofs.Held.{Said, said, length-records_in, part_within, shown}
 use Rattle.trace.proofs.traces.Trace.record.Goals as goal
+use Rattle.trace.proofs.traces.Trace.record.Goals.{After-read-pair}
 
-pub returns-then-i-self : goal.returns-then-i-self
-returns-then-i-self c whole = no_record c.args.self.now c.args.i (let w = table_within c.args.self.now whole in grind arith)
+pub returns-in_err-get : goal.returns-in_err-get
+returns-in_err-get c =
+    let t = c.args.self.now in
+    let n = length-records_in t.file.now (length t.rows.now) in
+    rw c.from_residual.ensures (sym (slice_get_past (records_of t) c.args.i (omega (arith, ltb-false, c.in_err-get.ensures.lookup))))
 
-pub returns-then-self-offset : goal.returns-then-self-offset
-returns-then-self-offset c whole =
-    let w = part_within c.args.self.now whole c.args.i c.if-i-self.false in
-    absurd (omega arith)
+below : (c : After-read-pair) → c.args.i < length c.args.self.now.rows.now
+below c = ltb-true c.args.i (length c.args.self.now.rows.now) (sym c.in_ok-get.ensures.lookup.0)
+
+row : (c : After-read-pair) → Said c.args.self.now.file.now c.args.i c.read-pair.result
+row c =
+    let t = c.args.self.now in
+    said t.file.now t.rows.now c.args.i _ c.read-pair.result t.headed.listed (below c) (omega arith) (omega arith) (c.read-pair.ensures ∙ c.in_ok-get.ensures.lookup.1)
+
+pub slice_bounds-parse-end : goal.slice_bounds-parse-end
+slice_bounds-parse-end c =
+    let t = c.args.self.now in
+    let at = (goal.at.slice_bounds-parse-end c).After-read-pair in
+    let w = part_within t.file.now (length t.rows.now) t.whole c.args.i (below at) in
+    let s = row at in
+    omega arith
 
 pub returns : goal.returns
-returns c = shown c.args.self.now c.args.i c.word_at-offset.result c.word_at-length.result c.parse.result c.if-i-self.false c.word_at-offset.ensures.value c.word_at-length.ensures.value c.parse.ensures
+returns c =
+    let t = c.args.self.now in
+    let at = (goal.at.returns c).After-read-pair in
+    shown t.file.now (length t.rows.now) c.args.i c.read-pair.result c.parse.result t.whole (below at) (row at) c.parse.ensures
