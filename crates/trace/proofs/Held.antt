@@ -1,10 +1,10 @@
 -- What holds of a trace, and of the rows of its table.
-use Rattle.std.proofs.Common.{◌≡◌, ℕ, zero, suc, ◌+◌, ◌-◌, ◌*◌, ◌^◌, ◌<◌, ◌≤◌, List, [], ◌∷◌, map, length, get_or, take, drop, Some, None, Option, sym, refl, ap, ◌∙◌, subst, arith, MatchOption}
+use Rattle.std.proofs.Common.{◌≡◌, ℕ, zero, suc, ◌+◌, ◌-◌, ◌*◌, ◌^◌, ◌<◌, ◌≤◌, List, [], ◌∷◌, map, length, get_or, take, drop, Some, None, Option, sym, refl, ap, ◌∙◌, subst, ⊎_elim, arith, MatchOption}
 use Rattle.std.specs.Option.{option_map}
 use Rattle.std.specs.List.{slice_get}
-use Rattle.std.proofs.lemmas.List.{length-map, length-drop, get_or-map, take-take, drop-take, drop-drop}
+use Rattle.std.proofs.lemmas.List.{drop_all, drop_more, length-map, length-drop, get_or-map, take-take, drop-take, drop-drop}
 use Rattle.std.proofs.lemmas.List.FromFn.{length-map-range_with_len, get_or-map-range_with_len}
-use Rattle.std.proofs.lemmas.Option.{slice_get-get_or}
+use Rattle.std.proofs.lemmas.Option.{none-some, slice_get-get_or, slice_get_within, slice_get_cases, get_or_from_slice_get}
 use Rattle.model.specs.Traces.{Record, laid, record_of, part_at, parts_in, packed, value, word, word_at, Traceable, Throughout, RecordLength}
 use Rattle.std.specs.Simd.{first_chunks}
 use Rattle.model.proofs.Packing.{Packable, told, value_low}
@@ -169,3 +169,12 @@ shown bytes n i p v whole h s e =
     let P : List ℕ → Type 0 = λ bs. MatchOption v (length bs ≡ 0) (λ x. laid (meant x) ≡ bs) in
     let l = part_sized bytes n whole i h in
     parsed v (part_at bytes i) (omega arith) (subst P w e) ∙ sym (record_at bytes n i h)
+
+-- the first element of what is left of a list from i on, and none
+pub first_left : {A : Type 0} (xs : List A) (i : ℕ) (x : A) → Some x ≡ slice_get xs i → (i < length xs) × (drop i xs ≡ x ∷ drop (i + 1) xs)
+first_left xs i x e =
+    let h = slice_get_within xs i x (sym e) in
+    (h, drop_more xs i x h ∙ ap (λ y. y ∷ drop (i + 1) xs) (get_or_from_slice_get xs i x x (sym e)))
+
+pub none_left : {A : Type 0} (xs : List A) (i : ℕ) → None ≡ slice_get xs i → drop i xs ≡ []
+none_left xs i e = ⊎_elim (λ q. absurd (none-some q.0 (e ∙ q.2))) (λ q. drop_all i xs q.0) (slice_get_cases xs i).1

@@ -79,6 +79,32 @@ fn one_record(rt: HostRuntime) -> Result<(), Fail> {
     Ok(())
 }
 
+// Three packets come back in the order in which they were added.
+#[test]
+fn records_in_order(rt: HostRuntime) -> Result<(), Fail> {
+    let packets = [[1; 14], [2; 14], [3; 14]];
+    let mut table = [NO_PAIR; 3];
+    let mut area = [0; 1823];
+    let mut buffer = [0; 73];
+    let mut recording = Recording::new(&mut table, &mut area);
+    for (port, packet) in packets.iter().enumerate() {
+        recording.push(Record {
+            port: port as u8,
+            packet,
+        })?;
+    }
+    assert_eq!(rt; recording.write(&mut buffer), Ok(73));
+    let trace = Trace::read(&buffer)?;
+    let mut seen = 0;
+    for (n, record) in trace.records().enumerate() {
+        assert!(rt; trace.record(n) == Some(record));
+        assert_eq!(rt; record.port as usize, n);
+        seen = n + 1;
+    }
+    assert_eq!(rt; seen, 3);
+    Ok(())
+}
+
 #[test]
 fn short_buffers(rt: HostRuntime) -> Result<(), Fail> {
     let packet = [9; 14];

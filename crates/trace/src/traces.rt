@@ -17,10 +17,17 @@ pub struct Trace<'a> {
     ghost whole: { IsTrace file.now (length rows.now) },
 }
 
+// The records of a trace that are still to come.
+#[derive(Drop)]
+pub struct Records<'a> {
+    trace: Trace<'a>,
+    seen: usize,
+}
+
 impl<'a> Trace<'a> {
     ghost use Rattle.std.specs.Option.{option_map};
     ghost use Rattle.std.specs.List.{slice_get};
-    ghost use Rattle.trace.specs.Meanings.{meant, records_of};
+    ghost use Rattle.trace.specs.Meanings.{meant, records_left, records_of};
     ghost use Rattle.trace.specs.Reading.{Reads};
     ghost use Rattle.trace.specs.Writing.{Rewrites};
 
@@ -51,6 +58,33 @@ impl<'a> Trace<'a> {
         let pair = Pair::read(*self.rows.get(i)?);
         let offset = pair.offset as usize;
         Record::parse(&self.file[offset..offset + pair.length as usize])
+    }
+
+    // All records, in their order.
+    pub fn records(&self) -> Records<'a>
+        ensures { records_left result ≡ records_of self.now }
+    {
+        Records {
+            trace: *self,
+            seen: 0,
+        }
+    }
+}
+
+impl<'a> Iterator for Records<'a> {
+    ghost use Rattle.std.specs.Iterator.{item_count, YieldsFirstBy};
+    ghost use Rattle.trace.specs.Meanings.{meant, records_left};
+
+    type Item = Record<'a>;
+
+    ghost next_gives = { YieldsFirstBy meant records_left };
+
+    ghost remaining = { item_count records_left };
+
+    fn next(&mut self) -> Option<Record<'a>> {
+        let record = self.trace.record(self.seen)?;
+        self.seen += 1;
+        Some(record)
     }
 }
 
