@@ -14,17 +14,6 @@ pub length-rows : (s : ℕ) (ps : List Pair) → length (rows s ps) ≡ 8 * leng
 length-rows s [] = refl
 length-rows s (p ∷ ps) = let r = length-rows s ps in omega arith
 
-pub rows_more :
-    (s : ℕ) (ps : List Pair) (i : ℕ) (d : Pair) →
-    i < length ps →
-    (rows s (take i ps) ++ word (s + (get_or ps i d).offset)) ++ word (get_or ps i d).length ≡ rows s (take (i + 1) ps)
-rows_more s ps i d h =
-    let p = get_or ps i d in
-    let f : Pair → List ℕ = λ q. word (s + q.offset) ++ word q.length in
-    append_assoc (rows s (take i ps)) (word (s + p.offset)) (word p.length)
-    ∙ flat_map_more f [] (take i ps) p
-    ∙ ap (rows s) (sym (take_more ps i d h))
-
 module _ (ps : List Pair) (area : List ℕ) (h : Listed ps area) where
   chain : Chained 0 ps (length area)
   chain = chained 0 ps (length area) h.gapless
@@ -101,29 +90,23 @@ module _ (ps : List Pair) (area : List ℕ) (h : Listed ps area) where
       ∙ written_more before (w ++ r) area 0 (start (length ps)) (omega arith) (omega arith) (omega arith)
       ∙ ap (written before 0) (append_assoc w r area ∙ sym listed_file)
 
--- one turn of writing the table: two words behind the rows so far
+-- one turn of writing the table: a row behind the rows so far
 pub row_written :
-    (before b c e v w : List ℕ) (ps : List Pair) (i : ℕ) (d : Pair) →
+    (before b e v : List ℕ) (ps : List Pair) (i : ℕ) (d : Pair) →
     i < length ps →
     start (length ps) ≤ length before →
     b ≡ written before 4 (rows (start (length ps)) (take i ps)) →
-    v ≡ word (start (length ps) + (get_or ps i d).offset) →
-    c ≡ written b (4 + 8 * i) v →
-    w ≡ word (get_or ps i d).length →
-    e ≡ written c (8 + 8 * i) w →
+    v ≡ word (start (length ps) + (get_or ps i d).offset) ++ word (get_or ps i d).length →
+    e ≡ written b (4 + 8 * i) v →
     e ≡ written before 4 (rows (start (length ps)) (take (i + 1) ps))
-row_written before b c e v w ps i d below room hb hv hc hw he =
+row_written before b e v ps i d below room hb hv he =
     let s = start (length ps) in
-    let p = get_or ps i d in
+    let row : Pair → List ℕ = λ q. word (s + q.offset) ++ word q.length in
     let r = rows s (take i ps) in
     let l = length-rows s (take i ps) in
     let t = length-take-le i ps (omega arith) in
-    let a = length-append r (word (s + p.offset)) in
-    let f = written_more before r (word (s + p.offset)) 4 (4 + 8 * i) (omega arith) (omega arith) (omega arith) in
-    let g = written_more before (r ++ word (s + p.offset)) (word p.length) 4 (8 + 8 * i) (omega arith) (omega arith) (omega arith) in
-    let m = rows_more s ps i d below in
     he
-    ∙ ap (λ (xs : List ℕ). written xs (8 + 8 * i) w) (hc ∙ ap (λ (xs : List ℕ). written xs (4 + 8 * i) v) hb ∙ ap (written (written before 4 r) (4 + 8 * i)) hv ∙ f)
-    ∙ ap (written (written before 4 (r ++ word (s + p.offset))) (8 + 8 * i)) hw
-    ∙ g
-    ∙ ap (written before 4) m
+    ∙ ap (written b (4 + 8 * i)) hv
+    ∙ ap (λ (xs : List ℕ). written xs (4 + 8 * i) (row (get_or ps i d))) hb
+    ∙ written_more before r (row (get_or ps i d)) 4 (4 + 8 * i) (omega arith) (omega arith) (omega arith)
+    ∙ ap (written before 4) (flat_map_more row [] (take i ps) (get_or ps i d) ∙ ap (rows s) (sym (take_more ps i d below)))

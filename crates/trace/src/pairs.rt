@@ -2,7 +2,7 @@
 ghost use Rattle.std.specs.Prelude.{◌≡◌};
 ghost use Rattle.trace.specs.Pairs.{row_of};
 
-use crate::words::number_in;
+use crate::words::{number_in, word_of};
 
 // Where a record begins, and how long it is.
 #[derive(Clone, Copy, PartialEq, Eq, Debug)]
@@ -11,15 +11,26 @@ pub struct Pair {
     pub length: u32,
 }
 
-impl Pair {
-    // The pair that a row of a table says.
-    pub(crate) fn read(row: [u8; 8]) -> Pair
-        ensures { row_of result ≡ row }
-    {
+// The pair that a row of a table says.
+impl From<[u8; 8]> for Pair {
+    ghost from_gives = { λ row pair. row_of pair ≡ row };
+
+    fn from(row: [u8; 8]) -> Pair {
         let [a, b, c, d, e, f, g, h] = row;
         Pair {
             offset: number_in([a, b, c, d]),
             length: number_in([e, f, g, h]),
         }
+    }
+}
+
+// A pair as a row of a table.
+impl From<Pair> for [u8; 8] {
+    ghost from_gives = { λ pair row. row ≡ row_of pair };
+
+    fn from(pair: Pair) -> [u8; 8] {
+        let [a, b, c, d] = word_of(pair.offset);
+        let [e, f, g, h] = word_of(pair.length);
+        [a, b, c, d, e, f, g, h]
     }
 }

@@ -55,7 +55,7 @@ impl<'a> Trace<'a> {
     pub fn record(&self, i: usize) -> Option<Record<'a>>
         ensures { option_map meant result ≡ slice_get (records_of self.now) i }
     {
-        let pair = Pair::read(*self.rows.get(i)?);
+        let pair = Pair::from(*self.rows.get(i)?);
         let offset = pair.offset as usize;
         Record::parse(&self.file[offset..offset + pair.length as usize])
     }
@@ -110,7 +110,7 @@ fn end_in(file: &[u8], rows: &[[u8; 8]]) -> Result<usize, Refusal>
 {
     let mut end = 4 + 8 * rows.len();
     for row in rows {
-        end = next_end(Pair::read(*row), end, file.len())?;
+        end = next_end(Pair::from(*row), end, file.len())?;
     }
     Ok(end)
 }

@@ -34,7 +34,10 @@ fn put_table(pairs: &[Pair], buffer: &mut [u8])
 {
     let first = (4 + 8 * pairs.len()) as u32;
     for (i, pair) in pairs.iter().enumerate() {
-        put(buffer, 4 + 8 * i, &word_of(first + pair.offset));
-        put(buffer, 8 + 8 * i, &word_of(pair.length));
+        let placed = Pair {
+            offset: first + pair.offset,
+            length: pair.length,
+        };
+        put(buffer, 4 + 8 * i, &<[u8; 8]>::from(placed));
     }
 }

@@ -8,8 +8,8 @@ use Rattle.trace.proofs.writing.put_table.Goals as goal
 
 pub loop-i-preserved : goal.loop-i-preserved
 loop-i-preserved c =
-    row_written c.args.buffer.now c.loop-i.buffer c.put.new.buffer c.put-in-loop-i.new.buffer c.word_of.result c.word_of-in-loop-i.result c.args.pairs.now c.loop-i.i _
-    c.loop-i-test.true c.requires.room c.loop-i.invariant c.word_of.ensures c.put.ensures c.word_of-in-loop-i.ensures c.put-in-loop-i.ensures
+    row_written c.args.buffer.now c.loop-i.buffer c.put.new.buffer c.from.result c.args.pairs.now c.loop-i.i _
+    c.loop-i-test.true c.requires.room c.loop-i.invariant c.from.ensures c.put.ensures
 
 pub returns : goal.returns
 returns c =

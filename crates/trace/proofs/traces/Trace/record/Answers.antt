@@ -3,7 +3,7 @@ use Rattle.std.proofs.lemmas.Option.{slice_get_past}
 use Rattle.trace.specs.Meanings.{records_of}
 use Rattle.trace.proofs.Held.{Said, said, length-records_in, part_within, shown}
 use Rattle.trace.proofs.traces.Trace.record.Goals as goal
-use Rattle.trace.proofs.traces.Trace.record.Goals.{After-read-pair}
+use Rattle.trace.proofs.traces.Trace.record.Goals.{After-from-pair}
 
 pub returns-in_err-get : goal.returns-in_err-get
 returns-in_err-get c =
@@ -11,18 +11,18 @@ returns-in_err-get c =
     let n = length-records_in t.file.now (length t.rows.now) in
     rw c.from_residual.ensures (sym (slice_get_past (records_of t) c.args.i (omega (arith, ltb-false, c.in_err-get.ensures.lookup))))
 
-below : (c : After-read-pair) → c.args.i < length c.args.self.now.rows.now
+below : (c : After-from-pair) → c.args.i < length c.args.self.now.rows.now
 below c = ltb-true c.args.i (length c.args.self.now.rows.now) (sym c.in_ok-get.ensures.lookup.0)
 
-row : (c : After-read-pair) → Said c.args.self.now.file.now c.args.i c.read-pair.result
+row : (c : After-from-pair) → Said c.args.self.now.file.now c.args.i c.from-pair.result
 row c =
     let t = c.args.self.now in
-    said t.file.now t.rows.now c.args.i _ c.read-pair.result t.headed.listed (below c) (omega arith) (omega arith) (c.read-pair.ensures ∙ c.in_ok-get.ensures.lookup.1)
+    said t.file.now t.rows.now c.args.i _ c.from-pair.result t.headed.listed (below c) (omega arith) (omega arith) (c.from-pair.ensures ∙ c.in_ok-get.ensures.lookup.1)
 
 pub slice_bounds-parse-end : goal.slice_bounds-parse-end
 slice_bounds-parse-end c =
     let t = c.args.self.now in
-    let at = (goal.at.slice_bounds-parse-end c).After-read-pair in
+    let at = (goal.at.slice_bounds-parse-end c).After-from-pair in
     let w = part_within t.file.now (length t.rows.now) t.whole c.args.i (below at) in
     let s = row at in
     omega arith
@@ -30,5 +30,5 @@ slice_bounds-parse-end c =
 pub returns : goal.returns
 returns c =
     let t = c.args.self.now in
-    let at = (goal.at.returns c).After-read-pair in
-    shown t.file.now (length t.rows.now) c.args.i c.read-pair.result c.parse.result t.whole (below at) (row at) c.parse.ensures
+    let at = (goal.at.returns c).After-from-pair in
+    shown t.file.now (length t.rows.now) c.args.i c.from-pair.result c.parse.result t.whole (below at) (row at) c.parse.ensures
