@@ -1,18 +1,17 @@
 -- What holds of a trace, and of the rows of its table.
-use Rattle.std.proofs.Common.{◌≡◌, ℕ, zero, suc, ◌+◌, ◌-◌, ◌*◌, ◌^◌, ◌<◌, ◌≤◌, List, [], ◌∷◌, map, length, get_or, take, drop, Some, None, Option, sym, refl, ap, ◌∙◌, subst, ⊎_elim, arith, MatchOption}
+use Rattle.std.proofs.Common.{◌≡◌, ℕ, suc, ◌+◌, ◌-◌, ◌*◌, ◌<◌, ◌≤◌, List, [], ◌∷◌, map, length, get_or, take, drop, Some, None, Option, sym, refl, ap, ◌∙◌, subst, ⊎_elim, arith, MatchOption}
 use Rattle.std.specs.Option.{option_map}
 use Rattle.std.specs.List.{slice_get}
-use Rattle.std.proofs.lemmas.List.{drop_all, drop_more, length-map, length-drop, get_or-map, take-take, drop-take, drop-drop}
+use Rattle.std.proofs.lemmas.List.{drop_all, drop_more, length-map, length-drop, get_or-map}
 use Rattle.std.proofs.lemmas.List.FromFn.{length-map-range_with_len, get_or-map-range_with_len}
 use Rattle.std.proofs.lemmas.Option.{none-some, slice_get-get_or, slice_get_within, slice_get_cases, get_or_from_slice_get}
-use Rattle.model.specs.Traces.{Record, laid, record_of, part_at, parts_in, packed, value, word, word_at, Traceable, Throughout, RecordLength}
-use Rattle.std.specs.Simd.{first_chunks}
-use Rattle.model.proofs.Packing.{Packable, told, value_low}
+use Rattle.model.specs.Traces.{Record, laid, record_of, part_at, parts_in, packed, word_at, Traceable, Throughout, RecordLength}
+use Rattle.model.proofs.Packing.{Packable, told}
 use Rattle.trace.specs.declared.layout.Record.{Record as View}
 use Rattle.trace.specs.declared.pairs.Pair.{Pair}
 use Rattle.trace.specs.Files.{records_in, IsTrace}
 use Rattle.trace.specs.Meanings.{meant}
-use Rattle.trace.specs.Pairs.{row_of}
+use Rattle.trace.specs.Pairs.{cut}
 
 pub length-parts_in : (bytes : List ℕ) (n : ℕ) → length (parts_in bytes n) ≡ n
 length-parts_in bytes n = length-map-range_with_len (part_at bytes) 0 n
@@ -105,66 +104,22 @@ pub parsed : (v : Option View) (bytes : List ℕ) → 1 ≤ length bytes → Mat
 parsed None bytes h e = absurd (omega arith)
 parsed (Some x) bytes h e = ap (λ (bs : List ℕ). Some (record_of bs)) e
 
--- ROWS
+-- pair i of a file
+abbrev pub pair_at : List ℕ → ℕ → Pair
+pair_at bytes i = record { offset = word_at bytes (4 + 8 * i); length = word_at bytes (8 + 8 * i) }
 
--- row i of a table is eight bytes of it
-pub row_at : (k : ℕ) (xs : List ℕ) (i : ℕ) (d : List ℕ) → i < k → get_or (first_chunks 8 k xs) i d ≡ take 8 (drop (8 * i) xs)
-row_at zero xs i d h = absurd (omega arith)
-row_at (suc k) xs zero d h = refl
-row_at (suc k) xs (suc i) d h =
-    let z : 8 + 8 * i ≡ 8 * suc i = omega arith in
-    row_at k (drop 8 xs) i d (omega arith) ∙ ap (take 8) (drop-drop (8 * i) 8 xs ∙ ap (λ (m : ℕ). drop m xs) z)
-
--- a number is what its four bytes say
-pub number_said : (n : ℕ) (bs : List ℕ) → n < 2 ^ 32 → word n ≡ bs → n ≡ value bs
-number_said n bs h e = sym (value_low 4 n (omega arith)) ∙ ap value e
-
--- row i of a file says this pair
-pub record Said (bytes : List ℕ) (i : ℕ) (p : Pair) : Type 0 where
-  pub offset : p.offset ≡ word_at bytes (4 + 8 * i)
-  pub offset_word : word p.offset ≡ take 4 (drop (4 + 8 * i) bytes)
-  pub long : p.length ≡ word_at bytes (8 + 8 * i)
-  pub long_word : word p.length ≡ take 4 (drop (8 + 8 * i) bytes)
-
-pub said :
-    (bytes : List ℕ) (rows : List (List ℕ)) (i : ℕ) (d : List ℕ) (p : Pair) →
-    rows ≡ first_chunks 8 (length rows) (drop 4 bytes) →
-    i < length rows →
-    p.offset < 2 ^ 32 →
-    p.length < 2 ^ 32 →
-    row_of p ≡ get_or rows i d →
-    Said bytes i p
-said bytes rows i d p listed h fo fl e =
-    let r : row_of p ≡ take 8 (drop (4 + 8 * i) bytes) =
-    e
-    ∙ ap (λ (rs : List (List ℕ)). get_or rs i d) listed
-    ∙ row_at (length rows) (drop 4 bytes) i d h
-    ∙ ap (take 8) (drop-drop (8 * i) 4 bytes)
-    in
-    let o : word p.offset ≡ take 4 (drop (4 + 8 * i) bytes) = ap (take 4) r ∙ take-take 4 8 (drop (4 + 8 * i) bytes) (omega arith) in
-    let z : 4 + 8 * i + 4 ≡ 8 + 8 * i = omega arith in
-    let l : word p.length ≡ take 4 (drop (8 + 8 * i) bytes) =
-    ap (drop 4) r ∙ drop-take 4 4 (drop (4 + 8 * i) bytes) ∙ ap (take 4) (drop-drop 4 (4 + 8 * i) bytes ∙ ap (λ (k : ℕ). drop k bytes) z)
-    in
-    record {
-      offset = number_said p.offset _ fo o;
-      offset_word = o;
-      long = number_said p.length _ fl l;
-      long_word = l;
-    }
-
--- what is parsed from the place that row i says is record i
+-- what is parsed from the place that pair i says is record i
 pub shown :
     (bytes : List ℕ) (n i : ℕ) (p : Pair) (v : Option View) →
     IsTrace bytes n →
     i < n →
-    Said bytes i p →
+    p ≡ pair_at bytes i →
     MatchOption v (length (take (p.offset + p.length - p.offset) (drop p.offset bytes)) ≡ 0) (λ x. laid (meant x) ≡ take (p.offset + p.length - p.offset) (drop p.offset bytes)) →
     option_map meant v ≡ slice_get (records_in bytes n) i
 shown bytes n i p v whole h s e =
     let z : p.offset + p.length - p.offset ≡ p.length = omega arith in
     let w : take (p.offset + p.length - p.offset) (drop p.offset bytes) ≡ part_at bytes i =
-    ap (λ (k : ℕ). take k (drop p.offset bytes)) (z ∙ s.long) ∙ ap (λ (k : ℕ). take (word_at bytes (8 + 8 * i)) (drop k bytes)) s.offset
+    ap (λ (k : ℕ). take k (drop p.offset bytes)) z ∙ ap (cut bytes) s
     in
     let P : List ℕ → Type 0 = λ bs. MatchOption v (length bs ≡ 0) (λ x. laid (meant x) ≡ bs) in
     let l = part_sized bytes n whole i h in

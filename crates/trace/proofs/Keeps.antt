@@ -35,7 +35,7 @@ module _ (s : Recording) where
       let n = length-take-le s.count s.table.now s.listed in
       let u = length-take-le s.used s.area.now s.inside in
       let f = s.few in
-      subst Traceable same_records (listed_fit (pairs s) (take s.used s.area.now) (record { few = omega arith; sized = s.sized; gapless = subst (Gapless (pairs s)) (sym u) s.gapless }))
+      subst Traceable same_records (listed_fit (pairs s) (take s.used s.area.now) (record { few = omega arith; sized = s.sized; gapless = subst (Gapless 0 (pairs s)) (sym u) s.gapless }))
 
   -- ADDING
 
@@ -43,10 +43,10 @@ module _ (s : Recording) where
     pairs_more : take (s.count + 1) (slice_set s.table.now s.count p) ≡ pairs s ++ p ∷ []
     pairs_more = take_more_set s.table.now s.count p free
 
-    pub gapless_kept : Gapless (take (s.count + 1) (slice_set s.table.now s.count p)) (s.used + p.length)
+    pub gapless_kept : Gapless 0 (take (s.count + 1) (slice_set s.table.now s.count p)) (s.used + p.length)
     gapless_kept =
-        let G : List Pair → Type 0 = λ ps. Gapless ps (s.used + p.length) in
-        subst G (sym pairs_more) (gapless_more (pairs s) p s.used (s.used + p.length) at (omega arith) s.gapless)
+        let G : List Pair → Type 0 = λ ps. Gapless 0 ps (s.used + p.length) in
+        subst G (sym pairs_more) (gapless_more 0 (pairs s) p s.used (s.used + p.length) at (omega arith) s.gapless)
 
     pub sized_kept : PacketLength (length r.packet) → Sized (take (s.count + 1) (slice_set s.table.now s.count p))
     sized_kept h =

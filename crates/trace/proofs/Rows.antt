@@ -1,13 +1,13 @@
 -- The file of records that are held as pairs and bytes.
-use Rattle.std.proofs.Common.{◌≡◌, ℕ, ◌+◌, ◌-◌, ◌*◌, ◌^◌, ◌<◌, ◌≤◌, List, [], ◌∷◌, ◌++◌, map, length, get_or, take, sym, refl, ap, ◌∙◌, subst, arith}
-use Rattle.std.proofs.lemmas.List.{append_assoc, length-append, length-map, get_or-map, length-take-le, take_all, take_more, flat_map_more}
+use Rattle.std.proofs.Common.{◌≡◌, ℕ, ◌+◌, ◌-◌, ◌*◌, ◌^◌, ◌<◌, ◌≤◌, List, [], ◌∷◌, ◌++◌, map, length, get_or, take, sym, refl, ap, ◌∙◌, arith}
+use Rattle.std.proofs.lemmas.List.{append_assoc, length-append, length-map, length-take-le, take_all, take_more, flat_map_more}
 use Rattle.umem.specs.Frames.{written}
 use Rattle.umem.proofs.Written.{written_more}
 use Rattle.model.specs.Traces.{word, table, packed, file, Traceable, Throughout, RecordLength}
 use Rattle.model.proofs.Packing.{all, start}
 use Rattle.trace.specs.declared.pairs.Pair.{Pair}
 use Rattle.trace.specs.Pairs.{cut, cut_records, rows, Listed}
-use Rattle.trace.proofs.Chains.{Chained, chained, chained_below, ends_within, parts_joined, cut_long, rows_table}
+use Rattle.trace.proofs.Chains.{Chained, chained, chained_below, ends_within, parts_joined, cuts_sized, rows_table}
 use Rattle.trace.proofs.Held.{laid_all, records_fit}
 
 pub length-rows : (s : ℕ) (ps : List Pair) → length (rows s ps) ≡ 8 * length ps
@@ -18,16 +18,8 @@ module _ (ps : List Pair) (area : List ℕ) (h : Listed ps area) where
   chain : Chained 0 ps (length area)
   chain = chained 0 ps (length area) h.gapless
 
-  pub parts_sized : Throughout (λ p. RecordLength (length p)) (map (cut area) ps)
-  parts_sized k d l =
-      let n = length-map ps (cut area) in
-      let none : Pair = record { offset = 0; length = 0 } in
-      let e = get_or-map (cut area) ps k none d (omega arith) in
-      let w = ends_within 0 ps (length area) k none chain (omega arith) in
-      let P : List ℕ → Type 0 = λ p. RecordLength (length p) in
-      let m = cut_long area (get_or ps k none) w in
-      let s = h.sized k none (omega arith) in
-      subst P (sym e) (omega arith, omega arith)
+  parts_sized : Throughout (λ p. RecordLength (length p)) (map (cut area) ps)
+  parts_sized = cuts_sized area 0 ps (length area) chain h.sized (omega arith)
 
   -- they are records that a trace can have
   pub listed_fit : Traceable (cut_records area ps)

@@ -1,11 +1,11 @@
 -- What the bytes of a trace file say.
-use Rattle.std.specs.Prelude.{◌≡◌, ◌≢◌, ℕ, ◌+◌, ◌-◌, ◌*◌, ◌≤◌, List, map, length, take, drop}
-use Rattle.std.specs.List.{flat_map}
+use Rattle.std.specs.Prelude.{◌≡◌, ◌≢◌, ℕ, ◌+◌, ◌*◌, ◌≤◌, List, map, length, take, drop}
 use Rattle.std.specs.Simd.{first_chunks}
 use Rattle.umem.specs.declared.refusal.Refusal.{Refusal}
 use Rattle.umem.specs.declared.refusal.Refusal.TheVariants.{NotATrace}
-use Rattle.model.specs.Traces.{Record, Traceable, Throughout, RecordLength, file, word, word_at, table, parts_in, record_of}
+use Rattle.model.specs.Traces.{Record, Traceable, RecordLength, file, word, word_at, parts_in, record_of}
 use Rattle.trace.specs.declared.pairs.Pair.{Pair}
+use Rattle.trace.specs.Pairs.{row_of, Gapless, Sized}
 
 -- the first n records of a file, in their order
 abbrev pub records_in : List ℕ → ℕ → List Record
@@ -34,17 +34,17 @@ pub record Headed (bytes : List ℕ) (rows : List (List ℕ)) : Type 0 where
   pub long : 4 + 8 * length rows ≤ length bytes
   pub listed : rows ≡ first_chunks 8 (length rows) (drop 4 bytes)
 
--- the record of a pair begins at `end`, is as long as a record is, and ends within so many bytes
-pub record FollowsOn (p : Pair) (end size : ℕ) : Type 0 where
+-- the pair that a row says
+abbrev pub pair_in : List ℕ → Pair
+pair_in row = record { offset = word_at row 0; length = word_at row 4 }
+
+-- the record of a pair begins where its forerunner ended, and is as long as a record is
+pub record FollowsOn (p : Pair) (end : ℕ) : Type 0 where
   pub begins : p.offset ≡ end
   pub sized : RecordLength p.length
-  pub within : end + p.length ≤ size
 
--- the first n parts that the table names are right: the table is theirs, each is as long as a record is, and they stand one
--- behind another from the table's end on, up to `end`, within the file
-pub record Right (bytes : List ℕ) (count n end : ℕ) : Type 0 where
-  pub sized : Throughout (λ p. RecordLength (length p)) (parts_in bytes n)
-  pub listed : table (4 + 8 * count) (parts_in bytes n) ≡ take (8 * n) (drop 4 bytes)
-  pub stand : flat_map (λ p. p) (parts_in bytes n) ≡ take (end - (4 + 8 * count)) (drop (4 + 8 * count) bytes)
-  pub ends : end ≡ 4 + 8 * count + length (flat_map (λ p. p) (parts_in bytes n))
-  pub within : end ≤ length bytes
+-- rows say pairs that follow one another from a place to an end, each as long as a record is
+pub record Stand (place : ℕ) (rows : List (List ℕ)) (end : ℕ) : Type 0 where
+  pub said : map row_of (map pair_in rows) ≡ rows
+  pub sized : Sized (map pair_in rows)
+  pub gapless : Gapless place (map pair_in rows) end

@@ -18,7 +18,7 @@ pub struct Recording<'a> {
     ghost few: { count ≤ 1024 },
     ghost listed: { count ≤ length table.now },
     ghost inside: { used ≤ length area.now },
-    ghost gapless: { Gapless (take count table.now) used },
+    ghost gapless: { Gapless 0 (take count table.now) used },
     ghost sized: { Sized (take count table.now) },
 }
 

@@ -1,7 +1,7 @@
 // Reading a trace file, whose records are parts of it.
-ghost use Rattle.std.specs.Prelude.{◌≡◌, ◌+◌, ◌≤◌, length, MatchResult};
+ghost use Rattle.std.specs.Prelude.{◌≡◌, ℕ, ◌+◌, ◌*◌, length, MatchResult};
 ghost use Rattle.umem.specs.declared.refusal.Refusal.TheVariants.{NotATrace};
-ghost use Rattle.trace.specs.Files.{FollowsOn, FoundNoTrace, Headed, IsTrace, Right};
+ghost use Rattle.trace.specs.Files.{FollowsOn, FoundNoTrace, Headed, IsTrace, Stand};
 
 use crate::layout::{MAX_RECORD, MAX_RECORDS, MIN_RECORD, Record};
 use crate::pairs::Pair;
@@ -37,7 +37,7 @@ impl<'a> Trace<'a> {
         ensures rewrites { Rewrites file.now result }
     {
         let rows = table_in(file)?;
-        let end = end_in(file, rows)?;
+        let end = end_of(rows)?;
         if end != file.len() {
             return Err(Refusal::NotATrace);
         }
@@ -103,29 +103,23 @@ fn table_in(file: &[u8]) -> Result<&[[u8; 8]], Refusal>
     Ok(&rows[..count])
 }
 
-// Where the last record ends.
-fn end_in(file: &[u8], rows: &[[u8; 8]]) -> Result<usize, Refusal>
-    requires { Headed file.now rows.now }
-    ensures { MatchResult result (Right file.now (length rows.now) (length rows.now)) (FoundNoTrace file.now) }
+// Where the last record ends, if each begins where its forerunner ended.
+fn end_of(rows: &[[u8; 8]]) -> Result<usize, Refusal>
+    ensures { MatchResult result (Stand (4 + 8 * length rows.now) rows.now) (λ e. (e ≡ NotATrace) × ((end : ℕ) → ¬ (Stand (4 + 8 * length rows.now) rows.now end))) }
 {
     let mut end = 4 + 8 * rows.len();
     for row in rows {
-        end = next_end(Pair::from(*row), end, file.len())?;
+        end = next_end(Pair::from(*row), end)?;
     }
     Ok(end)
 }
 
-// Where the record of a pair ends, if it begins where its forerunner ended, and ends within the file.
-fn next_end(pair: Pair, end: usize, size: usize) -> Result<usize, Refusal>
-    requires { end ≤ size }
-    ensures { MatchResult result (λ e. (e ≡ end + pair.length) × FollowsOn pair end size) (λ e. (e ≡ NotATrace) × ¬ (FollowsOn pair end size)) }
+// Where the record of a pair ends, if it begins where its forerunner ended.
+fn next_end(pair: Pair, end: usize) -> Result<usize, Refusal>
+    ensures { MatchResult result (λ e. (e ≡ end + pair.length) × FollowsOn pair end) (λ e. (e ≡ NotATrace) × ¬ (FollowsOn pair end)) }
 {
     let length = pair.length as usize;
-    if pair.offset as usize != end
-        || length < MIN_RECORD
-        || length > MAX_RECORD
-        || length > size - end
-    {
+    if pair.offset as usize != end || length < MIN_RECORD || length > MAX_RECORD {
         return Err(Refusal::NotATrace);
     }
     Ok(end + length)
