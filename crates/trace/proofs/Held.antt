@@ -5,13 +5,13 @@ use Rattle.std.specs.List.{slice_get}
 use Rattle.std.proofs.lemmas.List.{drop_all, drop_more, length-map, length-drop, get_or-map}
 use Rattle.std.proofs.lemmas.List.FromFn.{length-map-range_with_len, get_or-map-range_with_len}
 use Rattle.std.proofs.lemmas.Option.{none-some, slice_get-get_or, slice_get_within, slice_get_cases, get_or_from_slice_get}
-use Rattle.model.specs.Traces.{Record, laid, record_of, part_at, parts_in, packed, word_at, Traceable, Throughout, RecordLength}
-use Rattle.model.proofs.Packing.{Packable, told}
+use Rattle.model.specs.Traces.{Record, laid, record_of, part_at, parts_in, word_at, Traceable, Throughout, RecordLength}
 use Rattle.trace.specs.declared.layout.Record.{Record as View}
 use Rattle.trace.specs.declared.pairs.Pair.{Pair}
-use Rattle.trace.specs.Files.{records_in, IsTrace}
+use Rattle.trace.specs.Files.{records_in}
 use Rattle.trace.specs.Meanings.{meant}
 use Rattle.trace.specs.Pairs.{cut}
+use Rattle.trace.proofs.Chains.{cut_long}
 
 pub length-parts_in : (bytes : List ℕ) (n : ℕ) → length (parts_in bytes n) ≡ n
 length-parts_in bytes n = length-map-range_with_len (part_at bytes) 0 n
@@ -34,17 +34,7 @@ laid_all (p ∷ ps) h =
     let r = laid_all ps (λ k d m. h (Prim.Native.Nat.suc k) d (omega arith)) in
     cc
 
--- records that a trace can have come from parts of the lengths that records have
-pub parts_sized : (ps : List (List ℕ)) → Traceable (map record_of ps) → Throughout (λ p. RecordLength (length p)) ps
-parts_sized ps h k d l =
-    let n = length-map ps record_of in
-    let e = get_or-map record_of ps k d (record_of []) l in
-    let s = h.sized k (record_of []) (omega arith) in
-    let q = ap (λ (r : Record). length r.packet) e in
-    let w = length-drop 1 (get_or ps k d) in
-    (omega arith, omega arith)
-
--- and the other way
+-- parts of the lengths that records have are records that a trace can have
 pub records_fit : (ps : List (List ℕ)) → length ps ≤ 1024 → Throughout (λ p. RecordLength (length p)) ps → Traceable (map record_of ps)
 records_fit ps f h =
     let n = length-map ps record_of in
@@ -60,35 +50,6 @@ records_fit ps f h =
     }
 
 -- A TRACE
-
-module _ (bytes : List ℕ) (n : ℕ) (whole : IsTrace bytes n) where
-  pub trace_packable : Packable (parts_in bytes n)
-  trace_packable =
-      let l = length-records_in bytes n in
-      let m = length-parts_in bytes n in
-      let f = whole.fits.few in
-      record { few = omega arith; sized = parts_sized (parts_in bytes n) whole.fits }
-
-  pub trace_exact : packed (parts_in bytes n) ≡ bytes
-  trace_exact = ap packed (sym (laid_all (parts_in bytes n) trace_packable.sized)) ∙ whole.exact
-
-  -- part i lies in the file
-  pub part_within : (i : ℕ) → i < n → word_at bytes (4 + 8 * i) + word_at bytes (8 + 8 * i) ≤ length bytes
-  part_within i h =
-      let ps = parts_in bytes n in
-      let l = length-parts_in bytes n in
-      let w = told ps i (omega arith) trace_packable in
-      let o = w.offset in
-      let n = w.long in
-      let b = w.within in
-      let P : List ℕ → Type 0 = λ bs. word_at bs (4 + 8 * i) + word_at bs (8 + 8 * i) ≤ length bs in
-      subst P trace_exact (omega arith)
-
-  pub part_sized : (i : ℕ) → i < n → RecordLength (length (part_at bytes i))
-  part_sized i h =
-      let l = length-parts_in bytes n in
-      let P : List ℕ → Type 0 = λ p. RecordLength (length p) in
-      subst P (get_or-map-range_with_len (part_at bytes) 0 n i i [] h (omega arith)) (trace_packable.sized i [] (omega arith))
 
 pub record_at : (bytes : List ℕ) (n i : ℕ) → i < n → slice_get (records_in bytes n) i ≡ Some (record_of (part_at bytes i))
 record_at bytes n i h =
@@ -111,19 +72,17 @@ pair_at bytes i = record { offset = word_at bytes (4 + 8 * i); length = word_at 
 -- what is parsed from the place that pair i says is record i
 pub shown :
     (bytes : List ℕ) (n i : ℕ) (p : Pair) (v : Option View) →
-    IsTrace bytes n →
     i < n →
     p ≡ pair_at bytes i →
+    1 ≤ p.length →
+    p.offset + p.length ≤ length bytes →
     MatchOption v (length (take (p.offset + p.length - p.offset) (drop p.offset bytes)) ≡ 0) (λ x. laid (meant x) ≡ take (p.offset + p.length - p.offset) (drop p.offset bytes)) →
     option_map meant v ≡ slice_get (records_in bytes n) i
-shown bytes n i p v whole h s e =
+shown bytes n i p v h s some within e =
     let z : p.offset + p.length - p.offset ≡ p.length = omega arith in
-    let w : take (p.offset + p.length - p.offset) (drop p.offset bytes) ≡ part_at bytes i =
-    ap (λ (k : ℕ). take k (drop p.offset bytes)) z ∙ ap (cut bytes) s
-    in
-    let P : List ℕ → Type 0 = λ bs. MatchOption v (length bs ≡ 0) (λ x. laid (meant x) ≡ bs) in
-    let l = part_sized bytes n whole i h in
-    parsed v (part_at bytes i) (omega arith) (subst P w e) ∙ sym (record_at bytes n i h)
+    let l = cut_long bytes p within in
+    let P : ℕ → Type 0 = λ k. MatchOption v (length (take k (drop p.offset bytes)) ≡ 0) (λ x. laid (meant x) ≡ take k (drop p.offset bytes)) in
+    parsed v (cut bytes p) (omega arith) (subst P z e) ∙ ap (λ (q : Pair). Some (record_of (cut bytes q))) s ∙ sym (record_at bytes n i h)
 
 -- the first element of what is left of a list from i on, and none
 pub first_left : {A : Type 0} (xs : List A) (i : ℕ) (x : A) → Some x ≡ slice_get xs i → (i < length xs) × (drop i xs ≡ x ∷ drop (i + 1) xs)

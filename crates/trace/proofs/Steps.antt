@@ -9,7 +9,7 @@ use Rattle.model.proofs.Packing.{all, start, value_low, packable, packed_below, 
 use Rattle.trace.specs.declared.pairs.Pair.{Pair}
 use Rattle.trace.specs.Files.{NoRecords, Headed, FollowsOn, Stand, IsTrace, pair_in}
 use Rattle.trace.specs.Pairs.{cut, row_of, rows, Gapless, Sized}
-use Rattle.trace.proofs.Chains.{Chained, chained, one_end, next_of, gapless_more, parts_joined, cuts_sized, rows_table}
+use Rattle.trace.proofs.Chains.{Chained, chained, ends_within, one_end, next_of, gapless_more, parts_joined, cuts_sized, rows_table}
 use Rattle.trace.proofs.Held.{length-parts_in, laid_all, records_fit, pair_at}
 
 pub throughout_push : {A : Type 0} (P : A → Type 0) (xs : List A) (x : A) → Throughout P xs → P x → Throughout P (xs ++ x ∷ [])
@@ -117,6 +117,24 @@ wrong_next place rows i end d p h fo fl r t wrong e s =
     let o = next_of place ps e end i p (chained place ps e s.gapless) front (omega arith) in
     let P : Pair → Type 0 = λ a. RecordLength a.length in
     wrong (record { begins = sym (ap (λ (a : Pair). a.offset) q) ∙ o; sized = subst P q (s.sized i p (omega arith)) })
+
+-- the record of each row ends within them, and has a byte
+pub row_within :
+    (place : ℕ) (rows : List (List ℕ)) (end i : ℕ) (d : List ℕ) (p : Pair) →
+    i < length rows →
+    p.offset < 2 ^ 32 →
+    p.length < 2 ^ 32 →
+    row_of p ≡ get_or rows i d →
+    Stand place rows end →
+    (1 ≤ p.length) × (p.offset + p.length ≤ end)
+row_within place rows end i d p h fo fl e s =
+    let ps = map pair_in rows in
+    let n = length-map rows pair_in in
+    let q : get_or ps i p ≡ p = get_or-map pair_in rows i d p h ∙ pair_said p (get_or rows i d) fo fl e in
+    let w = ends_within place ps end i p (chained place ps end s.gapless) (omega arith) in
+    let z = s.sized i p (omega arith) in
+    let P : Pair → Type 0 = λ a. (1 ≤ a.length) × (a.offset + a.length ≤ end) in
+    subst P q (omega arith, w)
 
 pub same_end : (place : ℕ) (rows : List (List ℕ)) (e f : ℕ) → Stand place rows e → Stand place rows f → e ≡ f
 same_end place rows e f s t =

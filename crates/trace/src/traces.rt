@@ -14,6 +14,7 @@ pub struct Trace<'a> {
     file: &'a [u8],
     rows: &'a [[u8; 8]],
     ghost headed: { Headed file.now rows.now },
+    ghost standing: { Stand (4 + 8 * length rows.now) rows.now (length file.now) },
     ghost whole: { IsTrace file.now (length rows.now) },
 }
 
