@@ -7,7 +7,7 @@ use Rattle.std.proofs.lemmas.Bool.{cases_lt}
 use Rattle.model.specs.Traces.{Record, Traceable, Throughout, RecordLength, laid, file, value, word, word_at, table, packed, part_at, parts_in}
 use Rattle.model.proofs.Packing.{all, start, value_low, packable, packed_below, length-packed, count_back}
 use Rattle.trace.specs.declared.pairs.Pair.{Pair}
-use Rattle.trace.specs.Files.{NoRecords, Headed, FollowsOn, Stand, IsTrace, pair_in}
+use Rattle.trace.specs.Files.{NoRecords, Headed, FollowsOn, Stand, StandFrom, IsTrace, pair_in}
 use Rattle.trace.specs.Pairs.{cut, row_of, rows, Gapless, Sized}
 use Rattle.trace.proofs.Chains.{Chained, chained, ends_within, one_end, next_of, gapless_more, parts_joined, cuts_sized, rows_table}
 use Rattle.trace.proofs.Held.{length-parts_in, laid_all, records_fit, pair_at}
@@ -76,9 +76,9 @@ pub stand_more :
     p.offset < 2 ^ 32 →
     p.length < 2 ^ 32 →
     row_of p ≡ get_or rows i d →
-    Stand place (take i rows) end →
+    StandFrom place (take i rows) end →
     FollowsOn p end →
-    Stand place (take (i + 1) rows) (end + p.length)
+    StandFrom place (take (i + 1) rows) (end + p.length)
 stand_more place rows i end d p h fo fl e s f =
     let ps = map pair_in (take i rows) in
     let more : take (i + 1) rows ≡ take i rows ++ get_or rows i d ∷ [] = take_more rows i d h in
@@ -104,9 +104,9 @@ pub wrong_next :
     p.offset < 2 ^ 32 →
     p.length < 2 ^ 32 →
     row_of p ≡ get_or rows i d →
-    Stand place (take i rows) end →
+    StandFrom place (take i rows) end →
     ¬ (FollowsOn p end) →
-    (e : ℕ) → ¬ (Stand place rows e)
+    (e : ℕ) → ¬ (StandFrom place rows e)
 wrong_next place rows i end d p h fo fl r t wrong e s =
     let ps = map pair_in rows in
     let n = length-map rows pair_in in
@@ -125,7 +125,7 @@ pub row_within :
     p.offset < 2 ^ 32 →
     p.length < 2 ^ 32 →
     row_of p ≡ get_or rows i d →
-    Stand place rows end →
+    StandFrom place rows end →
     (1 ≤ p.length) × (p.offset + p.length ≤ end)
 row_within place rows end i d p h fo fl e s =
     let ps = map pair_in rows in
@@ -136,7 +136,7 @@ row_within place rows end i d p h fo fl e s =
     let P : Pair → Type 0 = λ a. (1 ≤ a.length) × (a.offset + a.length ≤ end) in
     subst P q (omega arith, w)
 
-pub same_end : (place : ℕ) (rows : List (List ℕ)) (e f : ℕ) → Stand place rows e → Stand place rows f → e ≡ f
+pub same_end : (place : ℕ) (rows : List (List ℕ)) (e f : ℕ) → StandFrom place rows e → StandFrom place rows f → e ≡ f
 same_end place rows e f s t =
     one_end place (map pair_in rows) e f (chained place (map pair_in rows) e s.gapless) (chained place (map pair_in rows) f t.gapless)
 
@@ -183,7 +183,7 @@ module _ (rs : List Record) (h : Traceable rs) where
       let n = length-map rs laid in
       omega arith
 
-  file_stands : (rows : List (List ℕ)) → Headed (file rs) rows → Stand (4 + 8 * length rows) rows (length (file rs))
+  file_stands : (rows : List (List ℕ)) → Headed (file rs) rows → Stand rows (length (file rs))
   unfolding packed
   file_stands rows head =
       let qs = map laid rs in
@@ -195,13 +195,13 @@ module _ (rs : List Record) (h : Traceable rs) where
       let l = length-packed qs in
       let b = packed_below qs (packable rs h) in
       let back = placed_back a qs (omega arith) in
-      let stands : Stand a (map row_of (placed a qs)) (length (file rs)) = record {
+      let stands : StandFrom a (map row_of (placed a qs)) (length (file rs)) = record {
         said = ap (map row_of) back;
         sized = subst Sized (sym back) (placed_sized a qs (packable rs h).sized);
         gapless = subst (λ (ps : List Pair). Gapless a ps (length (file rs))) (sym back) (placed_gapless a qs (length (file rs)) l);
       }
       in
-      subst (λ (k : ℕ). Stand (4 + 8 * k) rows (length (file rs))) (sym n) (subst (λ (xs : List (List ℕ)). Stand a xs (length (file rs))) (sym e) stands)
+      subst (λ (k : ℕ). StandFrom (4 + 8 * k) rows (length (file rs))) (sym n) (subst (λ (xs : List (List ℕ)). StandFrom a xs (length (file rs))) (sym e) stands)
 
 -- so what fails a step is the file of no records
 pub too_short : (bytes : List ℕ) → length bytes < 4 → NoRecords bytes
@@ -213,9 +213,9 @@ wrong_head bytes wrong rs t e =
     let p = subst P e (file_count rs t, file_long rs t) in
     wrong p.0 p.1
 
-pub wrong_rows : (bytes : List ℕ) (rows : List (List ℕ)) → Headed bytes rows → ¬ (Stand (4 + 8 * length rows) rows (length bytes)) → NoRecords bytes
+pub wrong_rows : (bytes : List ℕ) (rows : List (List ℕ)) → Headed bytes rows → ¬ (Stand rows (length bytes)) → NoRecords bytes
 wrong_rows bytes rows head wrong rs t e =
-    let P : List ℕ → Type 0 = λ bs. Headed bs rows → Stand (4 + 8 * length rows) rows (length bs) in
+    let P : List ℕ → Type 0 = λ bs. Headed bs rows → Stand rows (length bs) in
     wrong (subst P e (file_stands rs t rows) head)
 
 -- WHAT PASSES IS A TRACE
@@ -273,7 +273,7 @@ rows_from_0 (p ∷ ps) =
     let r = rows_from_0 ps in
     cc
 
-module _ (bytes : List ℕ) (table_rows : List (List ℕ)) (head : Headed bytes table_rows) (s : Stand (4 + 8 * length table_rows) table_rows (length bytes)) where
+module _ (bytes : List ℕ) (table_rows : List (List ℕ)) (head : Headed bytes table_rows) (s : Stand table_rows (length bytes)) where
   abbrev count : ℕ
   count = length table_rows
 

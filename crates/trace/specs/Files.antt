@@ -44,7 +44,11 @@ pub record FollowsOn (p : Pair) (end : ℕ) : Type 0 where
   pub sized : RecordLength p.length
 
 -- rows say pairs that follow one another from a place to an end, each as long as a record is
-pub record Stand (place : ℕ) (rows : List (List ℕ)) (end : ℕ) : Type 0 where
+pub record StandFrom (place : ℕ) (rows : List (List ℕ)) (end : ℕ) : Type 0 where
   pub said : map row_of (map pair_in rows) ≡ rows
   pub sized : Sized (map pair_in rows)
   pub gapless : Gapless place (map pair_in rows) end
+
+-- the rows of a table do so from the table's end on
+abbrev pub Stand : List (List ℕ) → ℕ → Type 0
+Stand rows end = StandFrom (4 + 8 * length rows) rows end

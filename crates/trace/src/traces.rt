@@ -1,5 +1,5 @@
 // Reading a trace file, whose records are parts of it.
-ghost use Rattle.std.specs.Prelude.{◌≡◌, ℕ, ◌+◌, ◌*◌, length, MatchResult};
+ghost use Rattle.std.specs.Prelude.{◌≡◌, ℕ, ◌+◌, length, MatchResult};
 ghost use Rattle.umem.specs.declared.refusal.Refusal.TheVariants.{NotATrace};
 ghost use Rattle.trace.specs.Files.{FollowsOn, FoundNoTrace, Headed, IsTrace, Stand};
 
@@ -14,7 +14,7 @@ pub struct Trace<'a> {
     file: &'a [u8],
     rows: &'a [[u8; 8]],
     ghost headed: { Headed file.now rows.now },
-    ghost standing: { Stand (4 + 8 * length rows.now) rows.now (length file.now) },
+    ghost standing: { Stand rows.now (length file.now) },
     ghost whole: { IsTrace file.now (length rows.now) },
 }
 
@@ -106,7 +106,7 @@ fn table_in(file: &[u8]) -> Result<&[[u8; 8]], Refusal>
 
 // Where the last record ends, if each begins where its forerunner ended.
 fn end_of(rows: &[[u8; 8]]) -> Result<usize, Refusal>
-    ensures { MatchResult result (Stand (4 + 8 * length rows.now) rows.now) (λ e. (e ≡ NotATrace) × ((end : ℕ) → ¬ (Stand (4 + 8 * length rows.now) rows.now end))) }
+    ensures { MatchResult result (Stand rows.now) (λ e. (e ≡ NotATrace) × ((end : ℕ) → ¬ (Stand rows.now end))) }
 {
     let mut end = 4 + 8 * rows.len();
     for row in rows {

@@ -24,5 +24,5 @@ pub invariant_of-result : goal.invariant_of-result
 invariant_of-result c =
     let file = c.args.file.now in
     let rows = c.in_ok-rows.rows.now in
-    let stand = subst (Stand (4 + 8 * length rows) rows) c.if-end-file.false c.in_ok-end.ensures in
+    let stand = subst (Stand rows) c.if-end-file.false c.in_ok-end.ensures in
     record { headed = c.in_ok-rows.ensures; standing = stand; whole = made file rows c.in_ok-rows.ensures stand }
