@@ -1,19 +1,30 @@
 -- Pairs that follow one another with no gap.
-use Rattle.std.proofs.Common.{◌≡◌, ℕ, zero, suc, ◌+◌, ◌-◌, ◌*◌, ◌<◌, ◌≤◌, List, [], ◌∷◌, ◌++◌, map, length, get_or, take, drop, sym, refl, ap, arith, take-add}
-use Rattle.std.proofs.lemmas.List.{append_assoc, take-take, drop-take, drop-drop, length-take-le, length-drop}
-use Rattle.model.specs.Traces.{word, table}
+use Rattle.std.proofs.Common.{◌≡◌, ℕ, zero, suc, ◌+◌, ◌-◌, ◌*◌, ◌<◌, ◌≤◌, List, [], ◌∷◌, ◌++◌, map, length, get_or, take, drop, sym, refl, ap, ◌∙◌, subst, arith, take-add}
+use Rattle.std.proofs.lemmas.List.{append_assoc, take-take, drop-take, drop-drop, length-take-le, length-drop, length-map, get_or-map}
+use Rattle.model.specs.Traces.{word, table, Throughout, RecordLength}
 use Rattle.model.proofs.Packing.{all}
-use Rattle.trace.specs.declared.store.Pair.{Pair}
-use Rattle.trace.specs.Pairs.{cut, offset_of, length_of, offsets, rows, Gapless, Sized}
+use Rattle.trace.specs.declared.pairs.Pair.{Pair}
+use Rattle.trace.specs.Pairs.{cut, rows, Gapless, Sized}
 
 -- the same, step by step
 abbrev pub Chained : ℕ → List Pair → ℕ → Type 0
 Chained a [] e = a ≡ e
 Chained a (p ∷ ps) e = (p.offset ≡ a) × Chained (a + p.length) ps e
 
-pub chained : (a : ℕ) (ps : List Pair) (e : ℕ) → map offset_of ps ++ e ∷ [] ≡ offsets a (map length_of ps) → Chained a ps e
+pub chained : (a : ℕ) (ps : List Pair) (e : ℕ) → Gapless a ps e → Chained a ps e
 chained a [] e h = cc
 chained a (p ∷ ps) e h = ((cc), chained (a + p.length) ps e (cc))
+
+-- a chain has one end
+pub one_end : (a : ℕ) (ps : List Pair) (e f : ℕ) → Chained a ps e → Chained a ps f → e ≡ f
+one_end a [] e f h k = sym h ∙ k
+one_end a (p ∷ ps) e f h k = one_end (a + p.length) ps e f h.1 k.1
+
+-- a pair begins where those before it end
+pub next_of : (a : ℕ) (ps : List Pair) (e f i : ℕ) (d : Pair) → Chained a ps e → Chained a (take i ps) f → i < length ps → (get_or ps i d).offset ≡ f
+next_of a [] e f i d h k l = absurd (omega arith)
+next_of a (p ∷ ps) e f zero d h k l = h.0 ∙ k
+next_of a (p ∷ ps) e f (suc i) d h k l = next_of (a + p.length) ps e f i d h.1 k.1 (omega arith)
 
 pub chained_le : (a : ℕ) (ps : List Pair) (e : ℕ) → Chained a ps e → a ≤ e
 chained_le a [] e h = omega arith
@@ -60,21 +71,13 @@ parts_kept xs ys a (p ∷ ps) e h k =
     cc
 
 -- one pair more
-gapless_from :
-    (a : ℕ) (ps : List Pair) (p : Pair) (e f : ℕ) →
-    p.offset ≡ e →
-    f ≡ e + p.length →
-    map offset_of ps ++ e ∷ [] ≡ offsets a (map length_of ps) →
-    map offset_of (ps ++ p ∷ []) ++ f ∷ [] ≡ offsets a (map length_of (ps ++ p ∷ []))
-gapless_from a [] p e f o l h = let z : e ≡ a = cc in cc
-gapless_from a (q ∷ ps) p e f o l h =
-    let z : q.offset ≡ a = cc in
-    let r = gapless_from (a + q.length) ps p e f o l (cc) in
-    cc
-
 pub gapless_more :
-    (ps : List Pair) (p : Pair) (e f : ℕ) → p.offset ≡ e → f ≡ e + p.length → Gapless ps e → Gapless (ps ++ p ∷ []) f
-gapless_more ps p e f o l h = gapless_from 0 ps p e f o l h
+    (a : ℕ) (ps : List Pair) (p : Pair) (e f : ℕ) → p.offset ≡ e → f ≡ e + p.length → Gapless a ps e → Gapless a (ps ++ p ∷ []) f
+gapless_more a [] p e f o l h = let z : e ≡ a = cc in cc
+gapless_more a (q ∷ ps) p e f o l h =
+    let z : q.offset ≡ a = cc in
+    let r = gapless_more (a + q.length) ps p e f o l (cc) in
+    cc
 
 -- the parts, one behind another, are the bytes from the first to the end
 pub parts_joined :
@@ -93,6 +96,16 @@ parts_joined xs a (p ∷ ps) e h =
 -- each part is as long as its pair says
 pub cut_long : (xs : List ℕ) (p : Pair) → p.offset + p.length ≤ length xs → length (cut xs p) ≡ p.length
 cut_long xs p h = let d = length-drop p.offset xs in length-take-le p.length (drop p.offset xs) (omega arith)
+
+pub cuts_sized : (xs : List ℕ) (a : ℕ) (ps : List Pair) (e : ℕ) → Chained a ps e → Sized ps → e ≤ length xs → Throughout (λ p. RecordLength (length p)) (map (cut xs) ps)
+cuts_sized xs a ps e h s l k d below =
+    let n = length-map ps (cut xs) in
+    let none : Pair = record { offset = 0; length = 0 } in
+    let w = ends_within a ps e k none h (omega arith) in
+    let m = cut_long xs (get_or ps k none) (omega arith) in
+    let r = s k none (omega arith) in
+    let P : List ℕ → Type 0 = λ p. RecordLength (length p) in
+    subst P (sym (get_or-map (cut xs) ps k none d (omega arith))) (omega arith, omega arith)
 
 -- the rows of a table are those of the parts
 pub rows_table :

@@ -1,6 +1,4 @@
-pub mod Adding
 pub mod Chains
-pub mod FourBytes
 pub mod Held
 pub mod Keeps
 pub mod Rows

@@ -1,44 +1,25 @@
 -- The file of records that are held as pairs and bytes.
-use Rattle.std.proofs.Common.{◌≡◌, ℕ, ◌+◌, ◌-◌, ◌*◌, ◌^◌, ◌<◌, ◌≤◌, List, [], ◌∷◌, ◌++◌, map, length, get_or, take, sym, refl, ap, ◌∙◌, subst, arith}
-use Rattle.std.proofs.lemmas.List.{append_assoc, length-append, length-map, get_or-map, length-take-le, take_all, take_more, flat_map_more}
+use Rattle.std.proofs.Common.{◌≡◌, ℕ, ◌+◌, ◌-◌, ◌*◌, ◌^◌, ◌<◌, ◌≤◌, List, [], ◌∷◌, ◌++◌, map, length, get_or, take, sym, refl, ap, ◌∙◌, arith}
+use Rattle.std.proofs.lemmas.List.{append_assoc, length-append, length-map, length-take-le, take_all, take_more, flat_map_more}
 use Rattle.umem.specs.Frames.{written}
 use Rattle.umem.proofs.Written.{written_more}
 use Rattle.model.specs.Traces.{word, table, packed, file, Traceable, Throughout, RecordLength}
 use Rattle.model.proofs.Packing.{all, start}
-use Rattle.trace.specs.declared.store.Pair.{Pair}
+use Rattle.trace.specs.declared.pairs.Pair.{Pair}
 use Rattle.trace.specs.Pairs.{cut, cut_records, rows, Listed}
-use Rattle.trace.proofs.Chains.{Chained, chained, chained_below, ends_within, parts_joined, cut_long, rows_table}
+use Rattle.trace.proofs.Chains.{Chained, chained, chained_below, ends_within, parts_joined, cuts_sized, rows_table}
 use Rattle.trace.proofs.Held.{laid_all, records_fit}
 
 pub length-rows : (s : ℕ) (ps : List Pair) → length (rows s ps) ≡ 8 * length ps
 length-rows s [] = refl
 length-rows s (p ∷ ps) = let r = length-rows s ps in omega arith
 
-pub rows_more :
-    (s : ℕ) (ps : List Pair) (i : ℕ) (d : Pair) →
-    i < length ps →
-    (rows s (take i ps) ++ word (s + (get_or ps i d).offset)) ++ word (get_or ps i d).length ≡ rows s (take (i + 1) ps)
-rows_more s ps i d h =
-    let p = get_or ps i d in
-    let f : Pair → List ℕ = λ q. word (s + q.offset) ++ word q.length in
-    append_assoc (rows s (take i ps)) (word (s + p.offset)) (word p.length)
-    ∙ flat_map_more f [] (take i ps) p
-    ∙ ap (rows s) (sym (take_more ps i d h))
-
 module _ (ps : List Pair) (area : List ℕ) (h : Listed ps area) where
   chain : Chained 0 ps (length area)
   chain = chained 0 ps (length area) h.gapless
 
-  pub parts_sized : Throughout (λ p. RecordLength (length p)) (map (cut area) ps)
-  parts_sized k d l =
-      let n = length-map ps (cut area) in
-      let none : Pair = record { offset = 0; length = 0 } in
-      let e = get_or-map (cut area) ps k none d (omega arith) in
-      let w = ends_within 0 ps (length area) k none chain (omega arith) in
-      let P : List ℕ → Type 0 = λ p. RecordLength (length p) in
-      let m = cut_long area (get_or ps k none) w in
-      let s = h.sized k none (omega arith) in
-      subst P (sym e) (omega arith, omega arith)
+  parts_sized : Throughout (λ p. RecordLength (length p)) (map (cut area) ps)
+  parts_sized = cuts_sized area 0 ps (length area) chain h.sized (omega arith)
 
   -- they are records that a trace can have
   pub listed_fit : Traceable (cut_records area ps)
@@ -101,29 +82,23 @@ module _ (ps : List Pair) (area : List ℕ) (h : Listed ps area) where
       ∙ written_more before (w ++ r) area 0 (start (length ps)) (omega arith) (omega arith) (omega arith)
       ∙ ap (written before 0) (append_assoc w r area ∙ sym listed_file)
 
--- one turn of writing the table: two words behind the rows so far
+-- one turn of writing the table: a row behind the rows so far
 pub row_written :
-    (before b c e v w : List ℕ) (ps : List Pair) (i : ℕ) (d : Pair) →
+    (before b e v : List ℕ) (ps : List Pair) (i : ℕ) (d : Pair) →
     i < length ps →
     start (length ps) ≤ length before →
     b ≡ written before 4 (rows (start (length ps)) (take i ps)) →
-    v ≡ word (start (length ps) + (get_or ps i d).offset) →
-    c ≡ written b (4 + 8 * i) v →
-    w ≡ word (get_or ps i d).length →
-    e ≡ written c (8 + 8 * i) w →
+    v ≡ word (start (length ps) + (get_or ps i d).offset) ++ word (get_or ps i d).length →
+    e ≡ written b (4 + 8 * i) v →
     e ≡ written before 4 (rows (start (length ps)) (take (i + 1) ps))
-row_written before b c e v w ps i d below room hb hv hc hw he =
+row_written before b e v ps i d below room hb hv he =
     let s = start (length ps) in
-    let p = get_or ps i d in
+    let row : Pair → List ℕ = λ q. word (s + q.offset) ++ word q.length in
     let r = rows s (take i ps) in
     let l = length-rows s (take i ps) in
     let t = length-take-le i ps (omega arith) in
-    let a = length-append r (word (s + p.offset)) in
-    let f = written_more before r (word (s + p.offset)) 4 (4 + 8 * i) (omega arith) (omega arith) (omega arith) in
-    let g = written_more before (r ++ word (s + p.offset)) (word p.length) 4 (8 + 8 * i) (omega arith) (omega arith) (omega arith) in
-    let m = rows_more s ps i d below in
     he
-    ∙ ap (λ (xs : List ℕ). written xs (8 + 8 * i) w) (hc ∙ ap (λ (xs : List ℕ). written xs (4 + 8 * i) v) hb ∙ ap (written (written before 4 r) (4 + 8 * i)) hv ∙ f)
-    ∙ ap (written (written before 4 (r ++ word (s + p.offset))) (8 + 8 * i)) hw
-    ∙ g
-    ∙ ap (written before 4) m
+    ∙ ap (written b (4 + 8 * i)) hv
+    ∙ ap (λ (xs : List ℕ). written xs (4 + 8 * i) (row (get_or ps i d))) hb
+    ∙ written_more before r (row (get_or ps i d)) 4 (4 + 8 * i) (omega arith) (omega arith) (omega arith)
+    ∙ ap (written before 4) (flat_map_more row [] (take i ps) (get_or ps i d) ∙ ap (rows s) (sym (take_more ps i d below)))

@@ -1,12 +1,16 @@
--- The steps of reading: what each one finds of the file, and that a file of records passes them all.
-use Rattle.std.proofs.Common.{◌≡◌, ℕ, ◌+◌, ◌-◌, ◌*◌, ◌<◌, ◌≤◌, List, [], ◌∷◌, ◌++◌, map, length, take, drop, sym, ap, ◌∙◌, subst, ⊎_elim, arith, take-add}
-use Rattle.std.proofs.lemmas.List.{append-nil, take_all, take-append-drop, drop-drop, length-take-le, length-append, length_push, length-map, length-drop, get_or_append_left, get_or_push}
-use Rattle.std.proofs.lemmas.List.FromFn.{map-range_with_len_more}
+-- The steps of reading: what the rows of a table say, and that those of a file of records pass.
+use Rattle.std.proofs.Common.{◌≡◌, ℕ, zero, suc, ◌+◌, ◌-◌, ◌*◌, ◌/◌, ◌^◌, ◌<◌, ◌≤◌, List, [], ◌∷◌, ◌++◌, map, length, get_or, take, drop, sym, refl, ap, ◌∙◌, subst, ⊎_elim, arith, take-add}
+use Rattle.std.specs.List.{flat_map, range_with_len}
+use Rattle.std.specs.Simd.{first_chunks}
+use Rattle.std.proofs.lemmas.List.{take_all, take_more, take-append-drop, take-take, drop-take, take-map, drop-drop, map_push, length-take-le, length-append, length_push, length-map, length-drop, get_or-map, get_or_append_left, get_or_push}
 use Rattle.std.proofs.lemmas.Bool.{cases_lt}
-use Rattle.model.specs.Traces.{Record, Traceable, Throughout, RecordLength, laid, file, word, word_at, table, packed, part_at, parts_in}
-use Rattle.model.proofs.Packing.{told, all, start, packable, all_append, table_append, length-packed, parts_back, count_back}
-use Rattle.trace.specs.Reading.{NoRecords, Headed, Right}
-use Rattle.trace.proofs.Held.{length-parts_in}
+use Rattle.model.specs.Traces.{Record, Traceable, Throughout, RecordLength, laid, file, value, word, word_at, table, packed, part_at, parts_in}
+use Rattle.model.proofs.Packing.{all, start, value_low, packable, packed_below, length-packed, count_back}
+use Rattle.trace.specs.declared.pairs.Pair.{Pair}
+use Rattle.trace.specs.Files.{NoRecords, Headed, FollowsOn, Stand, StandFrom, IsTrace, pair_in}
+use Rattle.trace.specs.Pairs.{cut, row_of, rows, Gapless, Sized}
+use Rattle.trace.proofs.Chains.{Chained, chained, ends_within, one_end, next_of, gapless_more, parts_joined, cuts_sized, rows_table}
+use Rattle.trace.proofs.Held.{length-parts_in, laid_all, records_fit, pair_at}
 
 pub throughout_push : {A : Type 0} (P : A → Type 0) (xs : List A) (x : A) → Throughout P xs → P x → Throughout P (xs ++ x ∷ [])
 throughout_push P xs x h p k d l =
@@ -16,7 +20,157 @@ throughout_push P xs x h p k d l =
     (λ q. subst P (sym (get_or_push xs x d k (omega arith))) p)
     (cases_lt k (length xs))
 
+-- A ROW
+
+-- a number is what its four bytes say
+pub number_said : (n : ℕ) (bs : List ℕ) → n < 2 ^ 32 → word n ≡ bs → n ≡ value bs
+number_said n bs h e = sym (value_low 4 n (omega arith)) ∙ ap value e
+
+-- and a pair what its row says
+pub pair_said : (p : Pair) (row : List ℕ) → p.offset < 2 ^ 32 → p.length < 2 ^ 32 → row_of p ≡ row → pair_in row ≡ p
+pair_said p row fo fl e =
+    let o = number_said p.offset (take 4 row) fo (ap (take 4) e) in
+    let l = number_said p.length (take 4 (drop 4 row)) fl (ap (λ (bs : List ℕ). take 4 (drop 4 bs)) e) in
+    sym (ap (λ (n : ℕ). record { offset = n; length = p.length }) o ∙ ap (λ (n : ℕ). record { offset = word_at row 0; length = n }) l)
+
+-- eight bytes of a file say the pair that stands there
+row_pair : (bytes : List ℕ) (i : ℕ) → pair_in (take 8 (drop (4 + 8 * i) bytes)) ≡ pair_at bytes i
+row_pair bytes i =
+    let xs = drop (4 + 8 * i) bytes in
+    let o : take 4 (take 8 xs) ≡ take 4 xs = take-take 4 8 xs (omega arith) in
+    let z : 4 + 8 * i + 4 ≡ 8 + 8 * i = omega arith in
+    let l : take 4 (drop 4 (take 8 xs)) ≡ take 4 (drop (8 + 8 * i) bytes) =
+    ap (take 4) (drop-take 4 4 xs)
+    ∙ take-take 4 4 (drop 4 xs) (omega arith)
+    ∙ ap (take 4) (drop-drop 4 (4 + 8 * i) bytes ∙ ap (λ (k : ℕ). drop k bytes) z)
+    in
+    ap (λ (bs : List ℕ). record { offset = value bs; length = word_at (take 8 xs) 4 }) o ∙ ap (λ (bs : List ℕ). record { offset = word_at bytes (4 + 8 * i); length = value bs }) l
+
+row_at : (k : ℕ) (xs : List ℕ) (i : ℕ) (d : List ℕ) → i < k → get_or (first_chunks 8 k xs) i d ≡ take 8 (drop (8 * i) xs)
+row_at zero xs i d h = absurd (omega arith)
+row_at (suc k) xs zero d h = refl
+row_at (suc k) xs (suc i) d h =
+    let z : 8 + 8 * i ≡ 8 * suc i = omega arith in
+    row_at k (drop 8 xs) i d (omega arith) ∙ ap (take 8) (drop-drop (8 * i) 8 xs ∙ ap (λ (m : ℕ). drop m xs) z)
+
+pub pair_read :
+    (bytes : List ℕ) (rows : List (List ℕ)) (i : ℕ) (d : List ℕ) (p : Pair) →
+    Headed bytes rows →
+    i < length rows →
+    p.offset < 2 ^ 32 →
+    p.length < 2 ^ 32 →
+    row_of p ≡ get_or rows i d →
+    p ≡ pair_at bytes i
+pair_read bytes rows i d p head h fo fl e =
+    sym (pair_said p (get_or rows i d) fo fl e)
+    ∙ ap (λ (rs : List (List ℕ)). pair_in (get_or rs i d)) head.listed
+    ∙ ap pair_in (row_at (length rows) (drop 4 bytes) i d h ∙ ap (take 8) (drop-drop (8 * i) 4 bytes))
+    ∙ row_pair bytes i
+
+-- ROWS
+
+-- one row more
+pub stand_more :
+    (place : ℕ) (rows : List (List ℕ)) (i end : ℕ) (d : List ℕ) (p : Pair) →
+    i < length rows →
+    p.offset < 2 ^ 32 →
+    p.length < 2 ^ 32 →
+    row_of p ≡ get_or rows i d →
+    StandFrom place (take i rows) end →
+    FollowsOn p end →
+    StandFrom place (take (i + 1) rows) (end + p.length)
+stand_more place rows i end d p h fo fl e s f =
+    let ps = map pair_in (take i rows) in
+    let more : take (i + 1) rows ≡ take i rows ++ get_or rows i d ∷ [] = take_more rows i d h in
+    let m : map pair_in (take (i + 1) rows) ≡ ps ++ p ∷ [] =
+    ap (map pair_in) more
+    ∙ map_push pair_in (take i rows) (get_or rows i d)
+    ∙ ap (λ (q : Pair). ps ++ q ∷ []) (pair_said p (get_or rows i d) fo fl e)
+    in
+    record {
+      said = ap (map row_of) m
+          ∙ map_push row_of ps p
+          ∙ ap (λ (rs : List (List ℕ)). rs ++ row_of p ∷ []) s.said
+          ∙ ap (λ (r : List ℕ). take i rows ++ r ∷ []) e
+          ∙ sym more;
+      sized = subst Sized (sym m) (throughout_push (λ q. RecordLength q.length) ps p s.sized f.sized);
+      gapless = subst (λ (qs : List Pair). Gapless place qs (end + p.length)) (sym m) (gapless_more place ps p end (end + p.length) f.begins refl s.gapless);
+    }
+
+-- a row whose pair doesn't follow on stands in no such rows
+pub wrong_next :
+    (place : ℕ) (rows : List (List ℕ)) (i end : ℕ) (d : List ℕ) (p : Pair) →
+    i < length rows →
+    p.offset < 2 ^ 32 →
+    p.length < 2 ^ 32 →
+    row_of p ≡ get_or rows i d →
+    StandFrom place (take i rows) end →
+    ¬ (FollowsOn p end) →
+    (e : ℕ) → ¬ (StandFrom place rows e)
+wrong_next place rows i end d p h fo fl r t wrong e s =
+    let ps = map pair_in rows in
+    let n = length-map rows pair_in in
+    let q : get_or ps i p ≡ p = get_or-map pair_in rows i d p h ∙ pair_said p (get_or rows i d) fo fl r in
+    let front : Chained place (take i ps) end =
+    subst (λ (qs : List Pair). Chained place qs end) (sym (take-map pair_in i rows)) (chained place (map pair_in (take i rows)) end t.gapless)
+    in
+    let o = next_of place ps e end i p (chained place ps e s.gapless) front (omega arith) in
+    let P : Pair → Type 0 = λ a. RecordLength a.length in
+    wrong (record { begins = sym (ap (λ (a : Pair). a.offset) q) ∙ o; sized = subst P q (s.sized i p (omega arith)) })
+
+-- the record of each row ends within them, and has a byte
+pub row_within :
+    (place : ℕ) (rows : List (List ℕ)) (end i : ℕ) (d : List ℕ) (p : Pair) →
+    i < length rows →
+    p.offset < 2 ^ 32 →
+    p.length < 2 ^ 32 →
+    row_of p ≡ get_or rows i d →
+    StandFrom place rows end →
+    (1 ≤ p.length) × (p.offset + p.length ≤ end)
+row_within place rows end i d p h fo fl e s =
+    let ps = map pair_in rows in
+    let n = length-map rows pair_in in
+    let q : get_or ps i p ≡ p = get_or-map pair_in rows i d p h ∙ pair_said p (get_or rows i d) fo fl e in
+    let w = ends_within place ps end i p (chained place ps end s.gapless) (omega arith) in
+    let z = s.sized i p (omega arith) in
+    let P : Pair → Type 0 = λ a. (1 ≤ a.length) × (a.offset + a.length ≤ end) in
+    subst P q (omega arith, w)
+
+pub same_end : (place : ℕ) (rows : List (List ℕ)) (e f : ℕ) → StandFrom place rows e → StandFrom place rows f → e ≡ f
+same_end place rows e f s t =
+    one_end place (map pair_in rows) e f (chained place (map pair_in rows) e s.gapless) (chained place (map pair_in rows) f t.gapless)
+
 -- A FILE OF RECORDS PASSES
+
+-- the pairs of parts that stand one behind another
+abbrev placed : ℕ → List (List ℕ) → List Pair
+placed a [] = []
+placed a (q ∷ qs) = record { offset = a; length = length q } ∷ placed (a + length q) qs
+
+placed_gapless : (a : ℕ) (qs : List (List ℕ)) (e : ℕ) → e ≡ a + length (all qs) → Gapless a (placed a qs) e
+placed_gapless a [] e h = ap (λ (n : ℕ). n ∷ []) (omega arith)
+placed_gapless a (q ∷ qs) e h =
+    let l = length-append q (all qs) in
+    ap (λ (ns : List ℕ). a ∷ ns) (placed_gapless (a + length q) qs e (omega arith))
+
+placed_sized : (a : ℕ) (qs : List (List ℕ)) → Throughout (λ q. RecordLength (length q)) qs → Sized (placed a qs)
+placed_sized a [] h k d l = absurd (omega arith)
+placed_sized a (q ∷ qs) h zero d l = h 0 [] (omega arith)
+placed_sized a (q ∷ qs) h (suc k) d l = placed_sized (a + length q) qs (λ j e m. h (suc j) e (omega arith)) k d (omega arith)
+
+placed_back : (a : ℕ) (qs : List (List ℕ)) → a + length (all qs) < 2 ^ 32 → map pair_in (map row_of (placed a qs)) ≡ placed a qs
+placed_back a [] h = refl
+placed_back a (q ∷ qs) h =
+    let l = length-append q (all qs) in
+    let p : Pair = record { offset = a; length = length q } in
+    let e : pair_in (row_of p) ≡ p = pair_said p (row_of p) (omega arith) (omega arith) refl in
+    let r = placed_back (a + length q) qs (omega arith) in
+    cc
+
+table_rows : (a : ℕ) (qs : List (List ℕ)) (rest : List ℕ) → first_chunks 8 (length qs) (table a qs ++ rest) ≡ map row_of (placed a qs)
+table_rows a [] rest = refl
+table_rows a (q ∷ qs) rest =
+    ap (λ (rs : List (List ℕ)). row_of (record { offset = a; length = length q }) ∷ rs) (table_rows (a + length q) qs rest)
 
 module _ (rs : List Record) (h : Traceable rs) where
   pub file_count : word_at (file rs) 0 ≤ 1024
@@ -29,33 +183,25 @@ module _ (rs : List Record) (h : Traceable rs) where
       let n = length-map rs laid in
       omega arith
 
-  pub file_end : length (file rs) ≡ start (word_at (file rs) 0) + length (all (parts_in (file rs) (word_at (file rs) 0)))
-  file_end =
-      let ps = map laid rs in
-      let c = count_back rs h in
-      let n = length-map rs laid in
-      let b : parts_in (file rs) (word_at (file rs) 0) ≡ ps = ap (parts_in (file rs)) c ∙ parts_back ps (length rs) (omega arith) (packable rs h) ∙ take_all (length rs) ps (omega arith) in
-      let l = length-packed ps in
-      let q = ap (λ (xs : List (List ℕ)). length (all xs)) b in
-      omega arith
-
-  -- pair i, where the parts before it end at `end`
-  pub file_pair :
-      (i end : ℕ) →
-      i < word_at (file rs) 0 →
-      end ≡ start (word_at (file rs) 0) + length (all (parts_in (file rs) i)) →
-      (word_at (file rs) (4 + 8 * i) ≡ end) × RecordLength (word_at (file rs) (8 + 8 * i)) × (end + word_at (file rs) (8 + 8 * i) ≤ length (file rs))
-  file_pair i end l e =
-      let ps = map laid rs in
-      let c = count_back rs h in
-      let n = length-map rs laid in
-      let t = told ps i (omega arith) (packable rs h) in
-      let o = t.offset in
-      let z = t.long in
-      let w = t.within in
-      let s = (packable rs h).sized i [] (omega arith) in
-      let q = ap (λ (xs : List (List ℕ)). length (all xs)) (parts_back ps i (omega arith) (packable rs h)) in
-      (omega arith, (omega arith, omega arith), omega arith)
+  file_stands : (rows : List (List ℕ)) → Headed (file rs) rows → Stand rows (length (file rs))
+  unfolding packed
+  file_stands rows head =
+      let qs = map laid rs in
+      let n : length rows ≡ length qs = head.value ∙ count_back rs h ∙ sym (length-map rs laid) in
+      let a = start (length qs) in
+      let e : rows ≡ map row_of (placed a qs) =
+      head.listed ∙ ap (λ (k : ℕ). first_chunks 8 k (drop 4 (file rs))) n ∙ table_rows a qs (all qs)
+      in
+      let l = length-packed qs in
+      let b = packed_below qs (packable rs h) in
+      let back = placed_back a qs (omega arith) in
+      let stands : StandFrom a (map row_of (placed a qs)) (length (file rs)) = record {
+        said = ap (map row_of) back;
+        sized = subst Sized (sym back) (placed_sized a qs (packable rs h).sized);
+        gapless = subst (λ (ps : List Pair). Gapless a ps (length (file rs))) (sym back) (placed_gapless a qs (length (file rs)) l);
+      }
+      in
+      subst (λ (k : ℕ). StandFrom (4 + 8 * k) rows (length (file rs))) (sym n) (subst (λ (xs : List (List ℕ)). StandFrom a xs (length (file rs))) (sym e) stands)
 
 -- so what fails a step is the file of no records
 pub too_short : (bytes : List ℕ) → length bytes < 4 → NoRecords bytes
@@ -67,112 +213,111 @@ wrong_head bytes wrong rs t e =
     let p = subst P e (file_count rs t, file_long rs t) in
     wrong p.0 p.1
 
-module _ (bytes : List ℕ) (count : ℕ) (head : Headed bytes count) where
-  -- pair i is not the one of a part that begins where its forerunner ended
-  pub wrong_pair :
-      (i end : ℕ) →
-      i < count →
-      Right bytes count i end →
-      ((word_at bytes (4 + 8 * i) ≡ end) → RecordLength (word_at bytes (8 + 8 * i)) → end + word_at bytes (8 + 8 * i) ≤ length bytes → ⊥) →
-      NoRecords bytes
-  wrong_pair i end l r wrong rs t e =
-      let P : List ℕ → Type 0 = λ bs. count ≡ word_at bs 0 → end ≡ start count + length (all (parts_in bs i)) → (word_at bs (4 + 8 * i) ≡ end) × RecordLength (word_at bs (8 + 8 * i)) × (end + word_at bs (8 + 8 * i) ≤ length bs) in
-      let passes : P (file rs) = λ c q. file_pair rs t i end (omega arith) (q ∙ ap (λ (n : ℕ). start n + length (all (parts_in (file rs) i))) c) in
-      let p = subst P e passes head.value r.ends in
-      wrong p.0 p.1 p.2
+pub wrong_rows : (bytes : List ℕ) (rows : List (List ℕ)) → Headed bytes rows → ¬ (Stand rows (length bytes)) → NoRecords bytes
+wrong_rows bytes rows head wrong rs t e =
+    let P : List ℕ → Type 0 = λ bs. Headed bs rows → Stand rows (length bs) in
+    wrong (subst P e (file_stands rs t rows) head)
 
-  -- the last part does not end the file
-  pub wrong_end : (end : ℕ) → Right bytes count count end → (end ≡ length bytes → ⊥) → NoRecords bytes
-  wrong_end end r wrong rs t e =
-      let P : List ℕ → Type 0 = λ bs. count ≡ word_at bs 0 → length bs ≡ start count + length (all (parts_in bs count)) in
-      let passes : P (file rs) = λ c. let Q : ℕ → Type 0 = λ n. length (file rs) ≡ start n + length (all (parts_in (file rs) n)) in subst Q (sym c) (file_end rs t) in
-      let p = subst P e passes head.value in
-      let q = r.ends in
-      wrong (omega arith)
+-- WHAT PASSES IS A TRACE
 
-  -- one part more is right
-  pub right_more :
-      (i end offset len : ℕ) →
-      i < count →
-      Right bytes count i end →
-      (offset ≡ word_at bytes (4 + 8 * i)) × (word offset ≡ take 4 (drop (4 + 8 * i) bytes)) →
-      (len ≡ word_at bytes (8 + 8 * i)) × (word len ≡ take 4 (drop (8 + 8 * i) bytes)) →
-      offset ≡ end →
-      RecordLength len →
-      end + len ≤ length bytes →
-      Right bytes count (i + 1) (end + len)
-  right_more i end offset len l r (ov, ow) (nv, nw) at fits inside =
-      let s = start count in
-      let xs = parts_in bytes i in
-      let p = part_at bytes i in
-      let more : parts_in bytes (i + 1) ≡ xs ++ p ∷ [] = map-range_with_len_more (part_at bytes) 0 i i (omega arith) in
-      let cut : take len (drop end bytes) ≡ p =
-      ap (λ (k : ℕ). take k (drop end bytes)) nv ∙ ap (λ (k : ℕ). take (word_at bytes (8 + 8 * i)) (drop k bytes)) (sym at ∙ ov)
-      in
-      let dl = length-drop end bytes in
-      let long : length p ≡ len = ap length (sym cut) ∙ length-take-le len (drop end bytes) (omega arith) in
-      let ends = r.ends in
-      let within = r.within in
-      let P : List (List ℕ) → Type 0 = λ ps. Throughout (λ q. RecordLength (length q)) ps in
-      let sized = throughout_push (λ q. RecordLength (length q)) xs p r.sized (omega arith, omega arith) in
-      let listed =
-      ap (table s) more
-      ∙ table_append s xs (p ∷ [])
-      ∙ ap (λ (ys : List ℕ). ys ++ (word (s + length (all xs)) ++ (word (length p) ++ []))) r.listed
-      ∙ ap (λ (k : ℕ). take (8 * i) (drop 4 bytes) ++ (word k ++ (word (length p) ++ []))) (sym ends ∙ sym at)
-      ∙ ap (λ (k : ℕ). take (8 * i) (drop 4 bytes) ++ (word offset ++ (word k ++ []))) long
-      ∙ ap (λ (ys : List ℕ). take (8 * i) (drop 4 bytes) ++ (word offset ++ ys)) (append-nil (word len))
-      ∙ ap (λ (ys : List ℕ). take (8 * i) (drop 4 bytes) ++ (ys ++ word len)) ow
-      ∙ ap (λ (ys : List ℕ). take (8 * i) (drop 4 bytes) ++ (take 4 (drop (4 + 8 * i) bytes) ++ ys)) nw
-      ∙ sym (row i)
-      in
-      let joins : all (parts_in bytes (i + 1)) ≡ all xs ++ p =
-      ap all more ∙ all_append xs (p ∷ []) ∙ ap (λ (ys : List ℕ). all xs ++ ys) (append-nil p)
-      in
-      let stand : all (parts_in bytes (i + 1)) ≡ take (end + len - s) (drop s bytes) =
-      joins
-      ∙ ap (λ (ys : List ℕ). ys ++ p) r.stand
-      ∙ ap (λ (ys : List ℕ). take (end - s) (drop s bytes) ++ ys) (sym cut)
-      ∙ behind (end - s) len s end (omega arith)
-      ∙ ap (λ (k : ℕ). take k (drop s bytes)) (omega arith)
-      in
-      let total = ap length joins ∙ length-append (all xs) p in
-      record { sized = subst P (sym more) sized; listed = listed; stand = stand; ends = omega arith; within = inside }
-    where
-      -- eight bytes more of the table
-      row : (k : ℕ) → take (8 * (k + 1)) (drop 4 bytes) ≡ take (8 * k) (drop 4 bytes) ++ (take 4 (drop (4 + 8 * k) bytes) ++ take 4 (drop (8 + 8 * k) bytes))
-      row k =
-          let z : 8 * (k + 1) ≡ 8 * k + 8 = omega arith in
-          let a = take-add (8 * k) 8 (drop 4 bytes) in
-          let b = take-add 4 4 (drop (8 * k) (drop 4 bytes)) in
-          let c = drop-drop (8 * k) 4 bytes in
-          let d = drop-drop 4 (4 + 8 * k) bytes in
-          let y : 4 + 8 * k + 4 ≡ 8 + 8 * k = omega arith in
-          cc
+-- the first chunks are the first ones of more
+chunks_taken : (n k m : ℕ) (xs : List ℕ) → k ≤ m → take k (first_chunks n m xs) ≡ first_chunks n k xs
+chunks_taken n zero m xs h = refl
+chunks_taken n (suc k) zero xs h = absurd (omega arith)
+chunks_taken n (suc k) (suc m) xs h = ap (λ (cs : List (List ℕ)). take n xs ∷ cs) (chunks_taken n k m (drop n xs) (omega arith))
 
-      -- bytes that follow on
-      behind : (n m a e : ℕ) → a + n ≡ e → take n (drop a bytes) ++ take m (drop e bytes) ≡ take (n + m) (drop a bytes)
-      behind n m a e z =
-          let t = take-add n m (drop a bytes) in
-          let d = drop-drop n a bytes in
-          cc
+-- a count and its rows are read from the front of a file
+pub headed :
+    (bytes count rest : List ℕ) (rows : List (List ℕ)) (n : ℕ) →
+    (count ≡ take 4 bytes) × (rest ≡ drop 4 bytes) × (length rest + 4 ≡ length bytes) →
+    word n ≡ count →
+    rows ≡ first_chunks 8 (length rest / 8) rest →
+    length rows ≡ length rest / 8 →
+    n ≤ 1024 →
+    n ≤ length rows →
+    Headed bytes (take n rows)
+headed bytes count rest rows n (front, back, long) said cut many few inside =
+    let l = length-take-le n rows inside in
+    let w : word n ≡ take 4 bytes = said ∙ front in
+    let v = number_said n (take 4 bytes) (omega arith) w in
+    let t = chunks_taken 8 n (length rest / 8) rest (omega arith) in
+    record {
+      few = omega arith;
+      value = l ∙ v;
+      bytes_of = ap word l ∙ w;
+      long = omega arith;
+      listed = ap (take n) cut ∙ t ∙ ap (first_chunks 8 n) back ∙ ap (λ (k : ℕ). first_chunks 8 k (drop 4 bytes)) (sym l);
+    }
 
-  -- where all parts are right and end the file, the file is what they pack to
-  pub right_exact : (end : ℕ) → Right bytes count count end → end ≡ length bytes → packed (parts_in bytes count) ≡ bytes
+chunks_joined : (n : ℕ) (xs : List ℕ) → flat_map (λ r. r) (first_chunks 8 n xs) ≡ take (8 * n) xs
+chunks_joined zero xs = refl
+chunks_joined (suc n) xs =
+    let z : 8 + 8 * n ≡ 8 * suc n = omega arith in
+    ap (λ (ys : List ℕ). take 8 xs ++ ys) (chunks_joined n (drop 8 xs)) ∙ sym (take-add 8 (8 * n) xs) ∙ ap (λ (k : ℕ). take k xs) z
+
+-- the parts of a file are what the pairs of its rows cut out of it
+rows_parts : (bytes : List ℕ) (n k : ℕ) → map (cut bytes) (map pair_in (first_chunks 8 n (drop (4 + 8 * k) bytes))) ≡ map (part_at bytes) (range_with_len k n)
+rows_parts bytes zero k = refl
+rows_parts bytes (suc n) k =
+    let z : 4 + 8 * k + 8 ≡ 4 + 8 * (k + 1) = omega arith in
+    let d : drop 8 (drop (4 + 8 * k) bytes) ≡ drop (4 + 8 * (k + 1)) bytes = drop-drop 8 (4 + 8 * k) bytes ∙ ap (λ (j : ℕ). drop j bytes) z in
+    let p = ap (cut bytes) (row_pair bytes k) in
+    let r = ap (λ (xs : List ℕ). map (cut bytes) (map pair_in (first_chunks 8 n xs))) d ∙ rows_parts bytes n (k + 1) in
+    cc
+
+-- a table that says no more than its pairs
+rows_from_0 : (ps : List Pair) → rows 0 ps ≡ flat_map (λ r. r) (map row_of ps)
+rows_from_0 [] = refl
+rows_from_0 (p ∷ ps) =
+    let z : 0 + p.offset ≡ p.offset = omega arith in
+    let r = rows_from_0 ps in
+    cc
+
+module _ (bytes : List ℕ) (table_rows : List (List ℕ)) (head : Headed bytes table_rows) (s : Stand table_rows (length bytes)) where
+  abbrev count : ℕ
+  count = length table_rows
+
+  abbrev ps : List Pair
+  ps = map pair_in table_rows
+
+  chain : Chained (start count) ps (length bytes)
+  chain = chained (start count) ps (length bytes) s.gapless
+
+  cuts : map (cut bytes) ps ≡ parts_in bytes count
+  cuts = ap (λ (rs : List (List ℕ)). map (cut bytes) (map pair_in rs)) head.listed ∙ rows_parts bytes count 0
+
+  exact : packed (map (cut bytes) ps) ≡ bytes
   unfolding packed
-  right_exact end r e =
-      let s = start count in
-      let ps = parts_in bytes count in
-      let n = length-parts_in bytes count in
+  exact =
+      let n : length (map (cut bytes) ps) ≡ count = ap length cuts ∙ length-parts_in bytes count in
       let long = head.long in
-      let dl = length-drop s bytes in
-      let rest : take (end - s) (drop s bytes) ≡ drop s bytes = take_all (end - s) (drop s bytes) (omega arith) in
-      let t = take-append-drop 4 bytes in
-      let u = take-append-drop (8 * count) (drop 4 bytes) in
-      let d = drop-drop (8 * count) 4 bytes in
-      ap (λ (k : ℕ). word k ++ (table (start k) ps ++ all ps)) n
-      ∙ ap (λ (ys : List ℕ). ys ++ (table s ps ++ all ps)) head.bytes_of
-      ∙ ap (λ (ys : List ℕ). take 4 bytes ++ (ys ++ all ps)) r.listed
-      ∙ ap (λ (ys : List ℕ). take 4 bytes ++ (take (8 * count) (drop 4 bytes) ++ ys)) (r.stand ∙ rest ∙ sym d)
-      ∙ ap (λ (ys : List ℕ). take 4 bytes ++ ys) u
-      ∙ t
+      let dl = length-drop (start count) bytes in
+      let z : 0 + start count ≡ start count = omega arith in
+      let rowed : table (start count) (map (cut bytes) ps) ≡ take (8 * count) (drop 4 bytes) =
+      ap (λ (k : ℕ). table k (map (cut bytes) ps)) (sym z)
+      ∙ sym (rows_table bytes 0 (start count) ps (length bytes) chain (omega arith))
+      ∙ rows_from_0 ps
+      ∙ ap (flat_map (λ r. r)) (s.said ∙ head.listed)
+      ∙ chunks_joined count (drop 4 bytes)
+      in
+      let joined : all (map (cut bytes) ps) ≡ drop (8 * count) (drop 4 bytes) =
+      parts_joined bytes (start count) ps (length bytes) chain
+      ∙ take_all (length bytes - start count) (drop (start count) bytes) (omega arith)
+      ∙ sym (drop-drop (8 * count) 4 bytes)
+      in
+      ap (λ (k : ℕ). word k ++ (table (start k) (map (cut bytes) ps) ++ all (map (cut bytes) ps))) n
+      ∙ ap (λ (xs : List ℕ). xs ++ (table (start count) (map (cut bytes) ps) ++ all (map (cut bytes) ps))) head.bytes_of
+      ∙ ap (λ (xs : List ℕ). take 4 bytes ++ (xs ++ all (map (cut bytes) ps))) rowed
+      ∙ ap (λ (xs : List ℕ). take 4 bytes ++ (take (8 * count) (drop 4 bytes) ++ xs)) joined
+      ∙ ap (λ (xs : List ℕ). take 4 bytes ++ xs) (take-append-drop (8 * count) (drop 4 bytes))
+      ∙ take-append-drop 4 bytes
+
+  pub made : IsTrace bytes count
+  made =
+      let n = length-parts_in bytes count in
+      let f = head.few in
+      let sized = subst (Throughout (λ p. RecordLength (length p))) cuts (cuts_sized bytes (start count) ps (length bytes) chain s.sized (omega arith)) in
+      record {
+        fits = records_fit (parts_in bytes count) (omega arith) sized;
+        exact = ap packed (laid_all (parts_in bytes count) sized ∙ sym cuts) ∙ exact;
+      }

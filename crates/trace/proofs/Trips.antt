@@ -1,17 +1,16 @@
 -- Reading and writing undo each other.
-use Rattle.std.proofs.Common.{◌≡◌, ℕ, List, length, take, Ok, Err, Result, sym, ap, ◌∙◌, subst, arith}
+use Rattle.std.proofs.Common.{◌≡◌, ℕ, List, take, Ok, Err, Result, sym, ap, ◌∙◌, subst, arith}
 use Rattle.umem.specs.declared.refusal.Refusal.{Refusal}
 use Rattle.umem.specs.Refusals.{number}
 use Rattle.umem.specs.Refusing.{NoneApplies, Smallest}
 use Rattle.umem.proofs.Written.{front_written}
-use Rattle.model.specs.Traces.{Record, Traceable, parts_in, packed, file}
+use Rattle.model.specs.Traces.{Record, Traceable, file}
 use Rattle.model.proofs.Packing.{files_tell}
 use Rattle.trace.specs.declared.traces.Trace.{Trace}
 use Rattle.trace.specs.Meanings.{records_of, Accepted}
-use Rattle.trace.specs.Reading.{FoundNoTrace, ReadApplies, Reads, Headed, Right}
+use Rattle.trace.specs.Files.{FoundNoTrace}
+use Rattle.trace.specs.Reading.{ReadApplies, Reads}
 use Rattle.trace.specs.Writing.{Writes, ReadsBack, Rewrites}
-use Rattle.trace.proofs.Held.{length-parts_in, laid_all, records_fit}
-use Rattle.trace.proofs.Steps.{right_exact}
 
 -- WHAT READING ANSWERS
 
@@ -23,14 +22,6 @@ pub broken : (bytes : List ℕ) (r : Result Trace Refusal) (e : Refusal) → Fou
 broken bytes r e h is =
     let P : Result Trace Refusal → Type 0 = λ s. Reads bytes s × Rewrites bytes s in
     subst P (sym is) ((refused bytes e h, tt), tt)
-
--- a trace whose parts are right is accepted
-pub made : (t : Trace) (end : ℕ) → Headed t.file.now t.count → Right t.file.now t.count t.count end → end ≡ length t.file.now → Accepted t
-made t end head r e =
-    let ps = parts_in t.file.now t.count in
-    let n = length-parts_in t.file.now t.count in
-    let f = head.few in
-    record { fits = records_fit ps (omega arith) r.sized; exact = ap packed (laid_all ps r.sized) ∙ right_exact t.file.now t.count head end r e }
 
 pub served : (t : Trace) → Accepted t → NoneApplies (ReadApplies t.file.now)
 served t whole n (_, none) = none (records_of t) whole.fits whole.exact

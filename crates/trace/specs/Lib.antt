@@ -1,5 +1,6 @@
+pub mod Files
 pub mod Meanings
 pub mod Pairs
 pub mod Reading
-pub mod Stores
+pub mod Recordings
 pub mod Writing

@@ -2,7 +2,7 @@
 use Rattle.std.specs.Prelude.{◌≡◌, ℕ, ◌+◌, ◌≤◌, List, [], ◌∷◌, ◌++◌, map, length, take, drop}
 use Rattle.std.specs.List.{flat_map}
 use Rattle.model.specs.Traces.{Record, record_of, word, Throughout, RecordLength}
-use Rattle.trace.specs.declared.store.Pair.{Pair}
+use Rattle.trace.specs.declared.pairs.Pair.{Pair}
 
 -- the bytes that a pair names
 abbrev pub cut : List ℕ → Pair → List ℕ
@@ -23,13 +23,17 @@ abbrev pub offsets : ℕ → List ℕ → List ℕ
 offsets place [] = place ∷ []
 offsets place (n ∷ ns) = place ∷ offsets (place + n) ns
 
--- the pairs follow one another from 0 to the end, with no gap
-abbrev pub Gapless : List Pair → ℕ → Type 0
-Gapless ps end = map offset_of ps ++ end ∷ [] ≡ offsets 0 (map length_of ps)
+-- the pairs follow one another from a place to an end, with no gap
+abbrev pub Gapless : ℕ → List Pair → ℕ → Type 0
+Gapless place ps end = map offset_of ps ++ end ∷ [] ≡ offsets place (map length_of ps)
 
 -- each pair is as long as a record is
 abbrev pub Sized : List Pair → Type 0
 Sized ps = Throughout (λ p. RecordLength p.length) ps
+
+-- a pair as a row of a table: its two numbers
+abbrev pub row_of : Pair → List ℕ
+row_of p = word p.offset ++ word p.length
 
 -- the table of a trace file, whose records begin at a place
 abbrev pub rows : ℕ → List Pair → List ℕ
@@ -39,4 +43,4 @@ rows place ps = flat_map (λ p. word (place + p.offset) ++ word p.length) ps
 pub record Listed (ps : List Pair) (area : List ℕ) : Type 0 where
   pub few : length ps ≤ 1024
   pub sized : Sized ps
-  pub gapless : Gapless ps (length area)
+  pub gapless : Gapless 0 ps (length area)

@@ -2,8 +2,8 @@
 #![tactic(auto)]
 
 pub mod layout;
+pub mod pairs;
 pub mod recording;
-pub mod store;
 #[cfg(test)]
 mod tests;
 pub mod traces;
@@ -11,6 +11,6 @@ mod words;
 mod writing;
 
 pub use layout::Record;
+pub use pairs::Pair;
 pub use recording::Recording;
-pub use store::Pair;
 pub use traces::Trace;

@@ -1,7 +1,7 @@
 // The worked values of trace files, and files that are none.
 use crate::layout::Record;
+use crate::pairs::Pair;
 use crate::recording::Recording;
-use crate::store::Pair;
 use crate::traces::Trace;
 use std::alloc::Global;
 use std::test::Fail;
@@ -76,6 +76,32 @@ fn one_record(rt: HostRuntime) -> Result<(), Fail> {
     assert_eq!(rt; record.port, 5);
     assert_eq!(rt; record.packet, &packet[0..14]);
     assert!(rt; trace.record(1).is_none());
+    Ok(())
+}
+
+// Three packets come back in the order in which they were added.
+#[test]
+fn records_in_order(rt: HostRuntime) -> Result<(), Fail> {
+    let packets = [[1; 14], [2; 14], [3; 14]];
+    let mut table = [NO_PAIR; 3];
+    let mut area = [0; 1823];
+    let mut buffer = [0; 73];
+    let mut recording = Recording::new(&mut table, &mut area);
+    for (port, packet) in packets.iter().enumerate() {
+        recording.push(Record {
+            port: port as u8,
+            packet,
+        })?;
+    }
+    assert_eq!(rt; recording.write(&mut buffer), Ok(73));
+    let trace = Trace::read(&buffer)?;
+    let mut seen = 0;
+    for (n, record) in trace.records().enumerate() {
+        assert!(rt; trace.record(n) == Some(record));
+        assert_eq!(rt; record.port as usize, n);
+        seen = n + 1;
+    }
+    assert_eq!(rt; seen, 3);
     Ok(())
 }
 

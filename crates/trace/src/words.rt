@@ -1,15 +1,13 @@
 // Numbers of 32 bits in a file, low byte first.
-ghost use Rattle.std.specs.Prelude.{◌≡◌, ◌+◌, ◌≤◌, length, take, drop};
-ghost use Rattle.model.specs.Traces.{word, word_at};
+ghost use Rattle.std.specs.Prelude.{◌≡◌, ◌+◌, ◌≤◌, length};
+ghost use Rattle.model.specs.Traces.{word};
 ghost use Rattle.umem.specs.Frames.{written};
 
-// The number in the four bytes from a place on.
-pub(crate) fn word_at(file: &[u8], at: usize) -> u32
-    requires { at + 4 ≤ length file.now }
-    ensures value { result ≡ word_at file.now at }
-    ensures bytes { word result ≡ take 4 (drop at file.now) }
+// The number that four bytes write.
+pub(crate) fn number_in(bytes: [u8; 4]) -> u32
+    ensures { word result ≡ bytes }
 {
-    u32::from_le_bytes([file[at], file[at + 1], file[at + 2], file[at + 3]])
+    u32::from_le_bytes(bytes)
 }
 
 // The four bytes of a number.

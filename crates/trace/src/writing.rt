@@ -5,7 +5,7 @@ ghost use Rattle.umem.specs.Frames.{written};
 ghost use Rattle.trace.specs.Pairs.{cut_records, rows, Listed};
 ghost use Rattle.trace.specs.Writing.{Writes};
 
-use crate::store::Pair;
+use crate::pairs::Pair;
 use crate::words::{put, word_of};
 use umem::refusal::Refusal;
 
@@ -34,7 +34,10 @@ fn put_table(pairs: &[Pair], buffer: &mut [u8])
 {
     let first = (4 + 8 * pairs.len()) as u32;
     for (i, pair) in pairs.iter().enumerate() {
-        put(buffer, 4 + 8 * i, &word_of(first + pair.offset));
-        put(buffer, 8 + 8 * i, &word_of(pair.length));
+        let placed = Pair {
+            offset: first + pair.offset,
+            length: pair.length,
+        };
+        put(buffer, 4 + 8 * i, &<[u8; 8]>::from(placed));
     }
 }

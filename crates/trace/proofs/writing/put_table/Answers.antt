@@ -1,15 +1,15 @@
 use Rattle.std.proofs.Common.{◌+◌, ◌*◌, List, length, ap, ◌∙◌}
 use Rattle.std.proofs.lemmas.List.{take_all}
 use Rattle.umem.specs.Frames.{written}
-use Rattle.trace.specs.declared.store.Pair.{Pair}
+use Rattle.trace.specs.declared.pairs.Pair.{Pair}
 use Rattle.trace.specs.Pairs.{rows}
 use Rattle.trace.proofs.Rows.{row_written}
 use Rattle.trace.proofs.writing.put_table.Goals as goal
 
 pub loop-i-preserved : goal.loop-i-preserved
 loop-i-preserved c =
-    row_written c.args.buffer.now c.loop-i.buffer c.put.new.buffer c.put-in-loop-i.new.buffer c.word_of.result c.word_of-in-loop-i.result c.args.pairs.now c.loop-i.i _
-    c.loop-i-test.true c.requires.room c.loop-i.invariant c.word_of.ensures c.put.ensures c.word_of-in-loop-i.ensures c.put-in-loop-i.ensures
+    row_written c.args.buffer.now c.loop-i.buffer c.put.new.buffer c.from.result c.args.pairs.now c.loop-i.i _
+    c.loop-i-test.true c.requires.room c.loop-i.invariant c.from.ensures c.put.ensures
 
 pub returns : goal.returns
 returns c =

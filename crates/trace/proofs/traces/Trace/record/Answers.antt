@@ -1,14 +1,31 @@
-use Rattle.std.proofs.Common.{arith}
-use Rattle.trace.proofs.Held.{no_record, shown, table_within, part_within}
+use Rattle.std.proofs.Common.{◌+◌, ◌*◌, ◌<◌, ◌≤◌, length, sym, ◌∙◌, arith, ltb-true, ltb-false}
+use Rattle.std.proofs.lemmas.Option.{slice_get_past}
+use Rattle.trace.specs.Meanings.{records_of}
+use Rattle.trace.proofs.Held.{length-records_in, shown}
+use Rattle.trace.proofs.Steps.{pair_read, row_within}
 use Rattle.trace.proofs.traces.Trace.record.Goals as goal
+use Rattle.trace.proofs.traces.Trace.record.Goals.{After-from-pair}
 
-pub returns-then-i-self : goal.returns-then-i-self
-returns-then-i-self c whole = no_record c.args.self.now c.args.i (let w = table_within c.args.self.now whole in grind arith)
+pub returns-in_err-get : goal.returns-in_err-get
+returns-in_err-get c =
+    let t = c.args.self.now in
+    let n = length-records_in t.file.now (length t.rows.now) in
+    rw c.from_residual.ensures (sym (slice_get_past (records_of t) c.args.i (omega (arith, ltb-false, c.in_err-get.ensures.lookup))))
 
-pub returns-then-self-offset : goal.returns-then-self-offset
-returns-then-self-offset c whole =
-    let w = part_within c.args.self.now whole c.args.i c.if-i-self.false in
-    absurd (omega arith)
+below : (c : After-from-pair) → c.args.i < length c.args.self.now.rows.now
+below c = ltb-true c.args.i (length c.args.self.now.rows.now) (sym c.in_ok-get.ensures.lookup.0)
+
+within : (c : After-from-pair) → (1 ≤ c.from-pair.result.length) × (c.from-pair.result.offset + c.from-pair.result.length ≤ length c.args.self.now.file.now)
+within c =
+    let t = c.args.self.now in
+    row_within (4 + 8 * length t.rows.now) t.rows.now (length t.file.now) c.args.i _ c.from-pair.result (below c) (omega arith) (omega arith) (c.from-pair.ensures ∙ c.in_ok-get.ensures.lookup.1) t.standing
+
+pub slice_bounds-parse-end : goal.slice_bounds-parse-end
+slice_bounds-parse-end c = (within (goal.at.slice_bounds-parse-end c).After-from-pair).1
 
 pub returns : goal.returns
-returns c = shown c.args.self.now c.args.i c.word_at-offset.result c.word_at-length.result c.parse.result c.if-i-self.false c.word_at-offset.ensures.value c.word_at-length.ensures.value c.parse.ensures
+returns c =
+    let t = c.args.self.now in
+    let at = (goal.at.returns c).After-from-pair in
+    let read = pair_read t.file.now t.rows.now c.args.i _ c.from-pair.result t.headed (below at) (omega arith) (omega arith) (c.from-pair.ensures ∙ c.in_ok-get.ensures.lookup.1) in
+    shown t.file.now (length t.rows.now) c.args.i c.from-pair.result c.parse.result (below at) read (within at).0 (within at).1 c.parse.ensures
