@@ -2,7 +2,7 @@
 use crate::faults::Fault;
 use crate::hex::Hex;
 use std::fs;
-use trace::Trace;
+use trace::{Record, Trace};
 
 pub fn run(rt: &HostRuntime, path: String) -> Result<(), Fault> {
     let file = match fs::read(rt, path.as_str()) {
@@ -14,15 +14,12 @@ pub fn run(rt: &HostRuntime, path: String) -> Result<(), Fault> {
 }
 
 fn list(rt: &HostRuntime, trace: Trace) -> Result<(), Fault> {
-    let count = trace.count();
-    for n in 0..count {
-        if let Some(record) = trace.record(n) {
-            let port = record.port;
-            let length = record.packet.len();
-            let bytes = Hex(record.packet);
-            println!(rt; "{n} {port} {length} {bytes}")?;
-        }
+    for (n, Record { port, packet }) in trace.records().enumerate() {
+        let length = packet.len();
+        let bytes = Hex(packet);
+        println!(rt; "{n} {port} {length} {bytes}")?;
     }
+    let count = trace.count();
     println!(rt; "records {count}")?;
     Ok(())
 }
