@@ -1,10 +1,10 @@
 -- What a packed list of parts tells of the parts.
 use Rattle.std.proofs.Common.{◌≡◌, ℕ, zero, suc, ◌+◌, ◌*◌, ◌/◌, ◌%◌, ◌^◌, ◌<◌, ◌≤◌, List, [], ◌∷◌, ◌++◌, map, length, get_or, take, drop, sym, refl, ap, ◌∙◌, subst, div-lt_iff_lt-mul, pow-suc, arith}
 use native.Mathlib.Nat.{mod-add-div}
-use Rattle.std.specs.List.{flat_map, AllByRecursion as All}
+use Rattle.std.specs.List.{All, AllByRecursion, flat_map}
 use Rattle.std.proofs.lemmas.List.{append_assoc, take_at, take_all, take-append-drop, drop_at, drop_more, length-append, length-map, length-take-le, get_or-map, get_or_default, get_or-take, same_lists}
 use Rattle.std.proofs.lemmas.List.FromFn.{length-map-range_with_len, get_or-map-range_with_len}
-use Rattle.model.specs.Traces.{low_first, value, word, word_at, table, packed, part_at, parts_in, Throughout, RecordLength, Record, laid, record_of, file, Traceable, FilesTell}
+use Rattle.model.specs.Traces.{low_first, value, word, word_at, table, packed, part_at, parts_in, RecordLength, Record, laid, record_of, file, Traceable, FilesTell}
 
 -- NUMBERS IN BYTES
 
@@ -21,7 +21,7 @@ value_low (suc k) n h =
     let s = mod-add-div n 256 in
     omega arith
 
-pub low_value : (bs : List ℕ) → All (λ b. b < 256) bs → low_first (length bs) (value bs) ≡ bs
+pub low_value : (bs : List ℕ) → AllByRecursion (λ b. b < 256) bs → low_first (length bs) (value bs) ≡ bs
 low_value [] h = refl
 low_value (b ∷ bs) (l, h) =
     let r = low_value bs h in
@@ -52,7 +52,7 @@ Part p = RecordLength (length p)
 
 pub record Packable (ps : List (List ℕ)) : Type 0 where
   pub few : length ps ≤ 1024
-  pub sized : Throughout Part ps
+  pub sized : All Part ps
 
 pub all_append : (ps qs : List (List ℕ)) → all (ps ++ qs) ≡ all ps ++ all qs
 all_append [] qs = refl
@@ -77,7 +77,7 @@ length-packed ps =
     let l = length-append (table (start (length ps)) ps) (all ps) in
     omega arith
 
-pub all_below : (ps : List (List ℕ)) → Throughout Part ps → length (all ps) ≤ 1793 * length ps
+pub all_below : (ps : List (List ℕ)) → All Part ps → length (all ps) ≤ 1793 * length ps
 all_below [] h = omega arith
 all_below (p ∷ ps) h =
     let l = h 0 [] (omega arith) in

@@ -1,5 +1,5 @@
 -- What the law of refusing settles.
-use Rattle.std.specs.Prelude.{◌≡◌, ℕ, Bool, T, Ok, Err, Result}
+use Rattle.std.specs.Prelude.{◌≡◌, ℕ, Bool, IsTrue, Ok, Err, Result}
 use Rattle.umem.specs.declared.cause.Cause.{Cause}
 use Rattle.umem.specs.declared.refusal.Refusal.{Refusal}
 use Rattle.umem.specs.Causes.{cause_number}
@@ -22,6 +22,6 @@ pub record NumbersTell : Type 0 where
 abbrev pub Settled : Type 0
 Settled =
     (applies : ℕ → Bool) (r s : Result (Unit {0}) Refusal)
-    → Answers (λ n. T (applies n)) (λ _. Unit {0}) (Unit {0}) r
-    → Answers (λ n. T (applies n)) (λ _. Unit {0}) (Unit {0}) s
+    → Answers (λ n. IsTrue (applies n)) (λ _. Unit {0}) (Unit {0}) r
+    → Answers (λ n. IsTrue (applies n)) (λ _. Unit {0}) (Unit {0}) s
     → Alike r s

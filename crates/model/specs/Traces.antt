@@ -1,6 +1,6 @@
 -- A trace file: what it is of a list of records.
-use Rattle.std.specs.Prelude.{◌≡◌, ℕ, zero, suc, ◌+◌, ◌*◌, ◌/◌, ◌%◌, ◌<◌, ◌≤◌, List, [], ◌∷◌, ◌++◌, map, length, take, drop, slice_index, slice_index_or}
-use Rattle.std.specs.List.{range_with_len, flat_map}
+use Rattle.std.specs.Prelude.{◌≡◌, ℕ, zero, suc, ◌+◌, ◌*◌, ◌/◌, ◌%◌, ◌≤◌, List, [], ◌∷◌, ◌++◌, map, length, take, drop, slice_index}
+use Rattle.std.specs.List.{All, range_with_len, flat_map}
 use Rattle.umem.specs.Frames.{PacketLength}
 
 -- what a trace tells of one packet: the port where it came or left, and its bytes
@@ -27,14 +27,10 @@ longest_record = 1793
 abbrev pub RecordLength : ℕ → Type 0
 RecordLength n = (shortest_record ≤ n) × (n ≤ longest_record)
 
--- each element of a list is such
-abbrev pub Throughout : {A : Type 0} → (A → Type 0) → List A → Type 0
-Throughout {A} P xs = (k : ℕ) (d : A) → k < length xs → P (slice_index_or xs k d)
-
 -- the records that a trace can have: at most 1,024, each with a packet of 14 to 1,792 bytes
 pub record Traceable (rs : List Record) : Type 0 where
   pub few : length rs ≤ 1024
-  pub sized : Throughout (λ r. PacketLength (length r.packet)) rs
+  pub sized : All (λ r. PacketLength (length r.packet)) rs
 
 -- a number in k bytes, low byte first
 abbrev pub low_first : ℕ → ℕ → List ℕ

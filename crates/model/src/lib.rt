@@ -7,16 +7,12 @@ ghost use Rattle.model.specs.Traces.{FilesTell};
 
 // Which refusals apply settles whether a call is served and which refusal it answers; refusals and causes are told apart by
 // their numbers.
-pub fn refusals_are_settled() -> u8
+pub fn refusals_are_settled()
     ensures numbers { NumbersTell }
     ensures answers { Settled }
-{
-    0
-}
+{}
 
 // A trace file tells its records: no two lists of records have the same file.
-pub fn files_tell_their_records() -> u8
+pub fn files_tell_their_records()
     ensures { FilesTell }
-{
-    0
-}
+{}

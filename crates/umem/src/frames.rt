@@ -1,5 +1,5 @@
 // Frames, their addresses, and how long a packet may be.
-ghost use Rattle.std.specs.Prelude.{◌≡◌, ◌*◌, MatchBool};
+ghost use Rattle.std.specs.Prelude.{◌≡◌, ◌*◌, ◌↔◌, IsTrue};
 ghost use Rattle.umem.specs.Frames.{address, frame_size, frame_named, FrameCount, LengthApplies, PacketLength};
 ghost use Rattle.umem.specs.Refusing.{Answers};
 
@@ -18,9 +18,9 @@ pub const MAX_PACKET: usize = 1792;
 
 // Whether a switch may have so many frames.
 pub fn is_frame_count(frames: u32) -> bool
-    ensures { MatchBool result (FrameCount frames) (¬ (FrameCount frames)) }
+    ensures { IsTrue result ↔ FrameCount frames }
 {
-    frames >= 1 && frames <= MAX_FRAMES
+    (1..=MAX_FRAMES).contains(&frames)
 }
 
 // How many bytes the memory of so many frames has.
@@ -30,11 +30,11 @@ pub fn memory_size(frames: u32) -> usize
     frames as usize * FRAME_SIZE
 }
 
-// The address at which a frame begins.
+// The address at which a frame begins: behind the memory of those before it.
 pub fn frame_start(frame: u32) -> u64
     ensures { result ≡ address frame 0 }
 {
-    frame as u64 * FRAME_SIZE as u64
+    memory_size(frame) as u64
 }
 
 // The frame that an address names.
@@ -48,7 +48,7 @@ pub fn frame_of(at: u64) -> u64
 pub fn check_packet_length(length: usize) -> Result<(), Refusal>
     ensures { Answers (LengthApplies length) (λ _. PacketLength length) (Unit {0}) result }
 {
-    if length < MIN_PACKET || length > MAX_PACKET {
+    if !(MIN_PACKET..=MAX_PACKET).contains(&length) {
         return Err(Refusal::WrongPacketLength);
     }
     Ok(())

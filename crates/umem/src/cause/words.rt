@@ -10,15 +10,7 @@ impl Cause {
     pub fn number(self) -> u8
         ensures { result ≡ cause_number self }
     {
-        match self {
-            Cause::DeviceDeaf => 1,
-            Cause::NoFillFrame => 2,
-            Cause::ReceiveFull => 3,
-            Cause::ReservedDestination => 4,
-            Cause::OwnPort => 5,
-            Cause::NoCopyFrame => 6,
-            Cause::SendRingFull => 7,
-        }
+        self as u8
     }
 
     // The cause in plain words.

@@ -10,27 +10,7 @@ impl Refusal {
     pub fn number(self) -> u8
         ensures { result ≡ number self }
     {
-        match self {
-            Refusal::NoSuchPort => 1,
-            Refusal::WrongMemorySize => 2,
-            Refusal::WrongPacketLength => 3,
-            Refusal::HandleNotOut => 4,
-            Refusal::UnfitSetup => 5,
-            Refusal::PortNotFresh => 6,
-            Refusal::PoolEmpty => 7,
-            Refusal::FillFull => 8,
-            Refusal::SendFull => 9,
-            Refusal::NothingReceived => 10,
-            Refusal::NothingToSend => 11,
-            Refusal::NothingCompleted => 12,
-            Refusal::LogFull => 13,
-            Refusal::Stuck => 14,
-            Refusal::CompletionFull => 15,
-            Refusal::OutsideSpan => 16,
-            Refusal::NotATrace => 17,
-            Refusal::UnfitEntry => 19,
-            Refusal::ShortBuffer => 20,
-        }
+        self as u8
     }
 
     // The refusal in plain words.
