@@ -39,16 +39,12 @@ module _ {E : Type 0} (s : State E) (ok : Sound s) where
       let p = s.marks.producer in
       let w = waiting s.marks in
       let r = s.marks.reserved in
-      let more : ahead (past p n) c ≡ w + n = omega arith in
-      let here : past c w ≡ p = omega arith in
-      let all : n + (r - n) ≡ r = omega arith in
-      let len : length (span z p n s.slots) ≡ n = length-span z p n s.slots ok.room (omega arith) in
       let joint = span_split z c w n s.slots ok.marks.whole ok.room (omega arith) in
       let cut = span_split z p n (r - n) s.slots ok.marks.whole ok.room (omega arith) in
-      let parts : draft s ≡ span z p n s.slots ++ span z (past p n) (r - n) s.slots = cc in
-      let front = take_at _ (span z (past p n) (r - n) s.slots) n len in
-      let back = drop_at _ (span z (past p n) (r - n) s.slots) n len in
-      record { moves = refl; memory = refl; waits = cc; drafts = cc }
+      let long = length-span z p n s.slots ok.room (omega arith) in
+      let front = take_at (span z p n s.slots) (span z (past p n) (r - n) s.slots) n long in
+      let back = drop_at (span z p n s.slots) (span z (past p n) (r - n) s.slots) n long in
+      record { moves = refl; memory = refl; waits = grind arith; drafts = grind arith }
 
   pub submits : (n : ℕ) (r : Result (Unit {0}) Refusal) (k : Numbers) → Submits s.marks n r k → RingSubmits s n r (with_marks s k)
   submits n r k h = lifted s k (Submitted s n) r h (λ l. submitted n (inside_count _ _ l))
@@ -57,27 +53,17 @@ module _ {E : Type 0} (s : State E) (ok : Sound s) where
   withdrawn n l =
       let z = s.marks.size in
       let p = s.marks.producer in
-      let r = s.marks.reserved in
-      let all : (r - n) + n ≡ r = omega arith in
-      let len : length (span z p (r - n) s.slots) ≡ r - n = length-span z p (r - n) s.slots ok.room (omega arith) in
-      let cut = span_split z p (r - n) n s.slots ok.marks.whole ok.room (omega arith) in
-      let parts : draft s ≡ span z p (r - n) s.slots ++ span z (past p (r - n)) n s.slots = cc in
-      let front = take_at _ (span z (past p (r - n)) n s.slots) (r - n) len in
-      record { moves = refl; memory = refl; waits = refl; drafts = cc }
+      let k = s.marks.reserved - n in
+      let cut = span_split z p k n s.slots ok.marks.whole ok.room (omega arith) in
+      let front = take_at (span z p k s.slots) (span z (past p k) n s.slots) k (length-span z p k s.slots ok.room (omega arith)) in
+      record { moves = refl; memory = refl; waits = refl; drafts = grind arith }
 
   pub withdraws : (n : ℕ) (r : Result (Unit {0}) Refusal) (k : Numbers) → Withdraws s.marks n r k → RingWithdraws s n r (with_marks s k)
   withdraws n r k h = lifted s k (Withdrawn s n) r h (λ l. withdrawn n (inside_count _ _ l))
 
   -- what a reserve leaves, whether it grants the slots or not
   pub granted : (n : ℕ) (r : ℕ × ℕ) (t : Numbers) → Reserves s.marks n r t → (r.0 ≤ free s.marks) × (t ≡ with_reserved s.marks (s.marks.reserved + r.0))
-  granted n r t h =
-      ⊎_elim
-      (λ l.
-      let a = h.none l in
-      let z : s.marks.reserved ≡ s.marks.reserved + r.0 = omega arith in
-      (omega arith, a.1 ∙ ap (with_reserved s.marks) z))
-      (λ l. let a = h.all l in (omega arith, a.1 ∙ ap (λ (k : ℕ). with_reserved s.marks (s.marks.reserved + k)) (sym a.0)))
-      (cases_lt (free s.marks) n)
+  granted n r t h = grind arith
 
   pub reserved : (n : ℕ) (r : ℕ × ℕ) (k : Numbers) → Reserves s.marks n r k → Reserved s n r (with_marks s k)
   reserved n r k h =
@@ -96,15 +82,10 @@ module _ {E : Type 0} (s : State E) (ok : Sound s) where
   released n l =
       let z = s.marks.size in
       let c = s.marks.consumer in
-      let p = s.marks.producer in
       let w = waiting s.marks in
-      let less : ahead p (past c n) ≡ w - n = omega arith in
-      let all : n + (w - n) ≡ w = omega arith in
-      let len : length (span z c n s.slots) ≡ n = length-span z c n s.slots ok.room (omega arith) in
       let cut = span_split z c n (w - n) s.slots ok.marks.whole ok.room (omega arith) in
-      let parts : queue s ≡ span z c n s.slots ++ span z (past c n) (w - n) s.slots = cc in
-      let back = drop_at _ (span z (past c n) (w - n) s.slots) n len in
-      record { moves = refl; memory = refl; waits = cc; drafts = refl }
+      let back = drop_at (span z c n s.slots) (span z (past c n) (w - n) s.slots) n (length-span z c n s.slots ok.room (omega arith)) in
+      record { moves = refl; memory = refl; waits = grind arith; drafts = refl }
 
   pub releases : (n : ℕ) (r : Result (Unit {0}) Refusal) (k : Numbers) → Releases s.marks n r k → RingReleases s n r (with_marks s k)
   releases n r k h = lifted s k (Released s n) r h (λ l. let i = inside_count _ _ l in released n (omega arith))
@@ -117,24 +98,17 @@ module _ {E : Type 0} (s : State E) (ok : Sound s) where
       let c = s.marks.consumer in
       let p = s.marks.producer in
       let w = waiting s.marks in
-      let r = s.marks.reserved in
       let j = ahead mark p in
-      let here : past p j ≡ mark = omega arith in
-      let there : past c (w + j) ≡ mark = omega arith in
-      let inside = span_set z p r j s.slots e ok.marks.whole ok.room (omega arith) l in
+      let inside = span_set z p s.marks.reserved j s.slots e ok.marks.whole ok.room (omega arith) l in
       let outside = span_set_other z c w (w + j) s.slots e ok.marks.whole ok.room (omega arith) (omega arith) in
-      record { moves = refl; memory = refl; waits = cc; drafts = cc }
+      record { moves = refl; memory = refl; waits = grind arith; drafts = grind arith }
 
   -- the slot of a waiting entry
   read_at :
       (mark : ℕ) (d : E) → ahead mark s.marks.consumer < waiting s.marks → mark < 2 ^ 32
       → get_or (queue s) (ahead mark s.marks.consumer) d ≡ get_or s.slots (mark % s.marks.size) d
   read_at mark d l h =
-      let z = s.marks.size in
-      let c = s.marks.consumer in
-      let here : past c (ahead mark c) ≡ mark = omega arith in
-      get_or-span z c (waiting s.marks) (ahead mark c) s.slots d ok.marks.whole ok.room (omega arith) l
-      ∙ ap (λ (m : ℕ). get_or s.slots (m % z) d) here
+      grind (arith, get_or-span s.marks.size s.marks.consumer (waiting s.marks) (ahead mark s.marks.consumer) s.slots d ok.marks.whole ok.room)
 
   pub read :
       (mark : ℕ) (e : E) → ahead mark s.marks.consumer < s.marks.peeked → mark < 2 ^ 32
