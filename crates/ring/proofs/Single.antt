@@ -13,26 +13,20 @@ module _
     {E : Type 0} (s a b : State E) (r : ℕ × ℕ) (e : E) (ok : Sound s) (none : s.marks.reserved ≡ 0) (some : r.0 ≡ 0 → ⊥) (h : Reserved s 1 r a) (ok_a : Sound a)
     (w : Written a r.1 e b) where
   room : Room s.marks
-  room = ⊎_elim (λ l. absurd (some (h.moves.none l).0)) (λ l. (none, omega arith)) (cases_lt (free s.marks) 1)
+  room = grind arith
 
   one_reserved : a.marks ≡ with_reserved s.marks 1
-  one_reserved =
-      let one : s.marks.reserved + 1 ≡ 1 = omega arith in
-      (h.moves.all (omega (arith, room))).1 ∙ ap (with_reserved s.marks) one
+  one_reserved = grind (arith, room)
 
   pushed : (t : State E) → Submitted b 1 t → Pushed s e t
   pushed t m =
       let is = one_reserved in
-      let f = h.moves.first in
-      let first : r.1 ≡ s.marks.producer = omega arith in
-      let place : ahead r.1 a.marks.producer ≡ 0 = omega (arith, ap (λ (k : Numbers). k.producer) is) in
-      let long : length (draft a) ≡ 1 = length-draft a ok_a ∙ ap (λ (k : Numbers). k.reserved) is in
-      let back : 1 - 1 ≡ s.marks.reserved - 1 = omega arith in
-      let drafted : draft b ≡ set (draft a) 0 e = cc in
-      let one : take 1 (draft b) ≡ e ∷ [] = ap (take 1) drafted ∙ take_more_set (draft a) 0 e (omega arith) in
+      let place : ahead r.1 a.marks.producer ≡ 0 = grind arith in
+      let long : length (draft a) ≡ 1 = grind (arith, length-draft a ok_a) in
+      let one = take_more_set (draft a) 0 e (omega arith) in
       let before : draft s ≡ [] = nil_from_length (draft s) (length-draft s ok ∙ none) in
-      let after : draft t ≡ [] = nil_from_length (draft t) (omega (arith, ap length m.drafts, ap length drafted, length-drop 1 (draft b), length-set (draft a) 0 e)) in
-      record { moves = cc; memory = cc; waits = cc; drafts = cc }
+      let after : draft t ≡ [] = nil_from_length (draft t) (grind (arith, length-drop 1 (draft b), length-set (draft a) 0 e)) in
+      record { moves = grind arith; memory = grind arith; waits = grind arith; drafts = cc }
 
   pub pushes : (q : Result (Unit {0}) Refusal) (t : State E) → RingSubmits b 1 q t → Pushes s e q t
   pushes (Ok _) t m = (λ n x. x.1 room, pushed t m.1)

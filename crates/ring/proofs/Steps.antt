@@ -67,16 +67,10 @@ module _ {E : Type 0} (s : State E) (ok : Sound s) where
 
   pub reserved : (n : ℕ) (r : ℕ × ℕ) (k : Numbers) → Reserves s.marks n r k → Reserved s n r (with_marks s k)
   reserved n r k h =
-      let z = s.marks.size in
-      let p = s.marks.producer in
-      let a = granted n r k h in
-      let joint = span_split z p s.marks.reserved r.0 s.slots ok.marks.whole ok.room (omega arith) in
-      record {
-        moves = h;
-        memory = refl;
-        waits = cc;
-        drafts = let first = h.first in cc;
-      }
+      let is = granted n r k h in
+      let first = h.first in
+      let joint = span_split s.marks.size s.marks.producer s.marks.reserved r.0 s.slots ok.marks.whole ok.room (omega arith) in
+      record { moves = h; memory = refl; waits = cc; drafts = cc }
 
   released : (n : ℕ) → n ≤ waiting s.marks → Released s n (with_marks s (consumed s.marks n))
   released n l =
@@ -118,15 +112,12 @@ module _ {E : Type 0} (s : State E) (ok : Sound s) where
   -- a new ring
   pub made : (start : ℕ) → s.marks ≡ fresh_numbers s.marks.size start → SizeFor (length s.slots) s.marks.size → Made s.slots start s
   made start m z =
-      let p = ap (λ (k : Numbers). k.producer) m in
-      let c = ap (λ (k : Numbers). k.consumer) m in
-      let r = ap (λ (k : Numbers). k.reserved) m in
       record {
         size = z;
         fresh = m;
         memory = refl;
-        waits = nil_from_length (queue s) (omega (arith, length-queue));
-        drafts = nil_from_length (draft s) (omega (arith, length-draft));
+        waits = nil_from_length (queue s) (grind (arith, length-queue));
+        drafts = nil_from_length (draft s) (grind (arith, length-draft));
       }
 
   -- the oldest entry leaves
@@ -135,14 +126,13 @@ module _ {E : Type 0} (s : State E) (ok : Sound s) where
       → k ≡ consumed s.marks 1 → Takes s 1 (Ok (e ∷ [])) (with_marks s k)
   popped e k l x m =
       let rest = released 1 l in
-      let zero : ahead s.marks.consumer s.marks.consumer ≡ 0 = omega arith in
-      let some : 0 < length (queue s) = omega (arith, length-queue) in
-      let oldest : get_or (queue s) 0 e ≡ e =
-      ap (λ (i : ℕ). get_or (queue s) i e) (sym zero) ∙ read_at s.marks.consumer e (omega arith) (omega arith) ∙ sym (x e) in
-      let first = take_more (queue s) 0 e some in
+      let long = length-queue in
+      let oldest = read_at s.marks.consumer e in
+      let is = x e in
+      let first = take_more (queue s) 0 e (omega arith) in
       let split = take-append-drop 1 (queue s) in
       subst (λ (k : Numbers). Takes s 1 (Ok (e ∷ [])) (with_marks s k)) (sym m)
-      (λ _ few. omega (arith, few.1), (refl, record { moves = refl; memory = refl; waits = cc; drafts = refl }))
+      (λ _ few. omega (arith, few.1), (refl, record { moves = refl; memory = refl; waits = grind arith; drafts = refl }))
 
   -- where none waits, none leaves
   pub none_popped : waiting s.marks ≡ 0 → Pops s None s × Takes s 1 (Err OutsideSpan) s
