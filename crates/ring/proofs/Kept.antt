@@ -36,15 +36,10 @@ sound_new slots start s m l =
 
 module _ {E : Type 0} (s t : State E) (ok : Sound s) where
   sound_produced : (n : ℕ) → n + waiting s.marks ≤ s.marks.size → n ≤ s.marks.reserved ⊎ (s.marks.reserved ≡ 0) → t.marks ≡ produced s.marks n → length t.slots ≡ length s.slots → Sound t
-  sound_produced n l r m x =
-      let more : ahead (past s.marks.producer n) s.marks.consumer ≡ waiting s.marks + n = omega arith in
-      let fits : waiting s.marks + n + (s.marks.reserved - n) ≤ s.marks.size = ⊎_elim (λ i. omega arith) (λ i. omega arith) r in
-      sound_at s t (produced s.marks n) ok m refl x (omega arith) (omega arith) (omega arith) ok.marks.cbits
+  sound_produced n l r m x = sound_at s t (produced s.marks n) ok m refl x (grind arith) (grind arith) (omega arith) ok.marks.cbits
 
   sound_consumed : (n : ℕ) → n ≤ waiting s.marks → t.marks ≡ consumed s.marks n → t.slots ≡ s.slots → Sound t
-  sound_consumed n l m x =
-      let less : ahead s.marks.producer (past s.marks.consumer n) ≡ waiting s.marks - n = omega arith in
-      sound_at s t (consumed s.marks n) ok m refl (ap length x) (omega arith) (omega arith) ok.marks.pbits (omega arith)
+  sound_consumed n l m x = sound_at s t (consumed s.marks n) ok m refl (ap length x) (grind arith) (grind arith) ok.marks.pbits (omega arith)
 
   sound_reserved : (n : ℕ) → waiting s.marks + n ≤ s.marks.size → t.marks ≡ with_reserved s.marks n → t.slots ≡ s.slots → Sound t
   sound_reserved n l m x = sound_at s t (with_reserved s.marks n) ok m refl (ap length x) l ok.marks.seen ok.marks.pbits ok.marks.cbits
