@@ -1,9 +1,9 @@
 -- A batch that releases what it read.
-use Rattle.std.proofs.Common.{◌≡◌, ℕ, ◌+◌, ◌-◌, ◌≤◌, List, [], ◌∷◌, length, get_or, take, Ok, Err, Result, ap, ◌∙◌, arith}
+use Rattle.std.proofs.Common.{◌≡◌, ℕ, ◌≤◌, List, [], ◌∷◌, length, take, Ok, Err, Result, ap, ◌∙◌, arith}
 use Rattle.std.proofs.lemmas.List.{take_more, length-take-le, take-append-drop}
 use Rattle.umem.specs.declared.refusal.Refusal.{Refusal}
-use Rattle.ring.specs.Wrap.{past, ahead}
-use Rattle.ring.specs.Marks.{Numbers, waiting, with_peeked, consumed}
+use Rattle.ring.specs.Wrap.{past}
+use Rattle.ring.specs.Marks.{waiting}
 use Rattle.ring.specs.Rings.{State, Sound, queue, PeekedTo, Read, Released, RingReleases, Cancelled, Takes, TakesInto}
 use Rattle.ring.proofs.Steps.{length-queue}
 

@@ -1,10 +1,9 @@
 -- A push, from the calls that it is made of.
-use Rattle.std.proofs.Common.{◌≡◌, ℕ, ◌+◌, ◌-◌, [], ◌∷◌, length, take, set, Ok, Err, Result, ap, ◌∙◌, ⊎_elim, arith}
+use Rattle.std.proofs.Common.{◌≡◌, ℕ, [], length, Ok, Err, Result, ap, ◌∙◌, arith}
 use Rattle.std.proofs.lemmas.List.{take_more_set, nil_from_length, length-drop, length-set}
-use Rattle.std.proofs.lemmas.Bool.{cases_lt}
 use Rattle.umem.specs.declared.refusal.Refusal.{Refusal}
 use Rattle.ring.specs.Wrap.{ahead}
-use Rattle.ring.specs.Marks.{Numbers, free, with_reserved}
+use Rattle.ring.specs.Marks.{Numbers, with_reserved}
 use Rattle.ring.specs.Rings.{State, Sound, draft, Reserved, Written, Submitted, RingSubmits, Room, Pushed, Pushes}
 use Rattle.ring.proofs.Steps.{length-draft}
 

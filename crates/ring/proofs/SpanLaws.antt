@@ -1,8 +1,7 @@
 -- The laws of span: what it holds at each place, how it splits, and what a write does to it.
-use Rattle.std.proofs.Common.{◌≡◌, ℕ, ◌+◌, ◌-◌, ◌*◌, ◌/◌, ◌%◌, ◌^◌, ◌<◌, ◌≤◌, ◌≢◌, List, ◌++◌, length, get_or, take, drop, set, sym, ap, ◌∙◌, ⊎_elim, mul-le-mul_right, mod-lt, mod-eq_of_lt, add-mul, div-add-mod', arith}
+use Rattle.std.proofs.Common.{◌≡◌, ℕ, ◌+◌, ◌-◌, ◌/◌, ◌%◌, ◌^◌, ◌<◌, ◌≤◌, ◌≢◌, List, ◌++◌, length, get_or, take, drop, set, sym, ◌∙◌, mul-le-mul_right, mod-lt, mod-eq_of_lt, add-mul, div-add-mod', arith}
 use native.Mathlib.Nat.{dvd_of_mod-eq-zero, mod-mod_of_dvd, mod-add-mod, mod-eq-sub-mod}
 use Rattle.std.proofs.lemmas.List.{same_lists, get_or-take, get_or-drop, get_or_append_left, get_or-append_right, length-append, length-take, length-take-le, length-drop, length-set, get_or-set_same, get_or-set_other}
-use Rattle.std.proofs.lemmas.Bool.{cases_lt, cases_eq, cases_order}
 use Rattle.ring.specs.Wrap.{past}
 use Rattle.ring.specs.Spans.{turned, span}
 
