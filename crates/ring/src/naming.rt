@@ -33,7 +33,7 @@ impl NamesFrame for Descriptor {
     }
 }
 
-impl<E: NamesFrame> Ring<'_, E> {
+impl<'a, E: NamesFrame> Ring<'a, E> {
     // How many waiting entries name the frame, peeked ones too.
     pub fn count_naming(&self, frame: u64) -> u32
         ensures { result ≡ count_by (λ e. nat_eq (E.NamesFrame.names e) frame) (queue self.now) }

@@ -4,7 +4,7 @@ ghost use Rattle.ring.specs.Rings.{Peeked, Gets, RingCancels, RingReleases};
 use super::Ring;
 use umem::refusal::Refusal;
 
-impl<E: Copy> Ring<'_, E> {
+impl<'a, E: Copy> Ring<'a, E> {
     // Looks at up to n waiting entries more: how many, and the mark of the first.
     pub fn peek(&mut self, n: u32) -> (u32, u32)
         ensures { Peeked self.old n result self.new }

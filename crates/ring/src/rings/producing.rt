@@ -5,7 +5,7 @@ ghost use Rattle.ring.specs.Rings.{Reserved, Puts, RingSubmits, RingWithdraws};
 use super::Ring;
 use umem::refusal::Refusal;
 
-impl<E: Copy> Ring<'_, E> {
+impl<'a, E: Copy> Ring<'a, E> {
     // Reserves n slots, all or none: how many, and the mark of the first.
     pub fn reserve(&mut self, n: u32) -> (u32, u32)
         ensures { Reserved self.old n result self.new }

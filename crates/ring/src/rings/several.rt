@@ -5,7 +5,7 @@ use super::Ring;
 use super::batches::Batch;
 use umem::refusal::Refusal;
 
-impl<E: Copy> Ring<'_, E> {
+impl<'a, E: Copy> Ring<'a, E> {
     // Takes the two oldest entries out, or none where fewer wait: `?` ends the batch then, and the one that waits stays.
     pub fn pop_pair(&mut self) -> Result<(E, E), Refusal>
         ensures { Takes self.old 2 (listed pair_of result) self.new }

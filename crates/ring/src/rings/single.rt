@@ -4,7 +4,7 @@ ghost use Rattle.ring.specs.Rings.{Pushes, Pops, Takes, one_of};
 use super::Ring;
 use umem::refusal::Refusal;
 
-impl<E: Copy> Ring<'_, E> {
+impl<'a, E: Copy> Ring<'a, E> {
     // Adds one entry to those that wait. Refused where no slot is free, or where any is reserved: the entry would have to
     // pass those that are still being written.
     pub fn push(&mut self, entry: E) -> Result<(), Refusal>

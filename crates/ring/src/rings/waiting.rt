@@ -4,7 +4,7 @@ ghost use Rattle.ring.specs.Rings.{queue};
 
 use super::Ring;
 
-impl<E> Ring<'_, E> {
+impl<'a, E> Ring<'a, E> {
     // The waiting entries, oldest first, in two parts: as far as the last slot, and then from the first slot on.
     pub(crate) fn waiting_parts(&self) -> (&[E], &[E])
         ensures parts { queue self.now ≡ result.0.now ++ result.1.now }
@@ -18,7 +18,7 @@ impl<E> Ring<'_, E> {
     }
 }
 
-impl<E: Copy> Ring<'_, E> {
+impl<'a, E: Copy> Ring<'a, E> {
     // Copies the oldest entries.
     pub(super) fn copy_oldest(&self, out: &mut [E])
         requires { length out.old ≤ length (queue self.now) }
