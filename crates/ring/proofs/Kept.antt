@@ -1,56 +1,55 @@
 -- What holds of every ring, kept by every step.
-use Rattle.std.proofs.Common.{◌≡◌, ℕ, ◌+◌, ◌-◌, ◌%◌, ◌^◌, ◌<◌, ◌≤◌, ◌⊎◌, List, length, Ok, Err, sym, refl, ap, ◌∙◌, subst, inl, inr, ⊎_elim, arith}
+use Rattle.std.proofs.Common.{◌≡◌, ℕ, ◌+◌, ◌-◌, ◌%◌, ◌^◌, ◌<◌, ◌≤◌, ◌⊎◌, List, length, Ok, Err, sym, ap, ◌∙◌, subst, inl, inr, arith}
 use Rattle.std.proofs.lemmas.List.{length-set}
-use Rattle.ring.specs.Wrap.{past, ahead}
-use Rattle.ring.specs.Marks.{Numbers, waiting, with_reserved, with_peeked, produced, consumed}
+use Rattle.ring.specs.Marks.{SoundMarks, waiting, with_reserved, with_peeked, produced, consumed}
 use Rattle.ring.specs.Rings.{State, Sound, Made}
 use Rattle.ring.specs.Runs.{Event, Reserve, Put, Submit, Withdraw, Peek, Get, Cancel, Release, Push, Take, Step}
 use Rattle.ring.proofs.Inside.{inside_count, inside_room}
 use Rattle.ring.proofs.Powers.{sound_fresh}
 use Rattle.ring.proofs.Steps.{granted}
 
--- other marks and slots, at the same size
-sound_at :
-    {E : Type 0} (s t : State E) (m : Numbers) → Sound s → t.marks ≡ m → m.size ≡ s.marks.size → length t.slots ≡ length s.slots
-    → waiting m + m.reserved ≤ m.size → m.peeked ≤ waiting m → m.producer < 2 ^ 32 → m.consumer < 2 ^ 32 → Sound t
-sound_at s t m ok e z x fits seen pbits cbits =
-    subst (λ (k : Numbers). Sound (record { marks = k; slots = t.slots })) (sym e)
-    (record {
-      marks = record {
-        fits = fits;
-        seen = seen;
-        small = omega arith;
-        whole = rw z ok.marks.whole;
-        masked = rw z ok.marks.masked;
-        pbits = pbits;
-        cbits = cbits;
-      };
-      room = omega arith;
-    })
-
 pub sound_new : {E : Type 0} (slots : List E) (start : ℕ) (s : State E) → Made slots start s → start < 2 ^ 32 → Sound s
 sound_new slots start s m l =
     let size = m.size in
-    subst (λ (k : Numbers). Sound (record { marks = k; slots = s.slots })) (sym m.fresh)
-    (record { marks = sound_fresh (length slots) s.marks.size start m.size l; room = omega (arith, ap length m.memory, size.held) })
+    record {
+      marks = subst SoundMarks (sym m.fresh) (sound_fresh (length slots) s.marks.size start m.size l);
+      room = omega (arith, ap length m.memory, size.held);
+    }
 
 module _ {E : Type 0} (s t : State E) (ok : Sound s) where
-  sound_produced : (n : ℕ) → n + waiting s.marks ≤ s.marks.size → n ≤ s.marks.reserved ⊎ (s.marks.reserved ≡ 0) → t.marks ≡ produced s.marks n → length t.slots ≡ length s.slots → Sound t
-  sound_produced n l r m x =
-      let more : ahead (past s.marks.producer n) s.marks.consumer ≡ waiting s.marks + n = omega arith in
-      let fits : waiting s.marks + n + (s.marks.reserved - n) ≤ s.marks.size = ⊎_elim (λ i. omega arith) (λ i. omega arith) r in
-      sound_at s t (produced s.marks n) ok m refl x (omega arith) (omega arith) (omega arith) ok.marks.cbits
+  -- other marks and slots, at the same size
+  sound_at :
+      t.marks.size ≡ s.marks.size → length t.slots ≡ length s.slots → waiting t.marks + t.marks.reserved ≤ t.marks.size
+      → t.marks.peeked ≤ waiting t.marks → t.marks.producer < 2 ^ 32 → t.marks.consumer < 2 ^ 32 → Sound t
+  sound_at z x fits seen pbits cbits = record {
+    marks = record {
+      fits = fits;
+      seen = seen;
+      small = omega arith;
+      whole = rw z ok.marks.whole;
+      masked = rw z ok.marks.masked;
+      pbits = pbits;
+      cbits = cbits;
+    };
+    room = omega arith;
+  }
+
+  sound_produced :
+      (n : ℕ) → n + waiting s.marks ≤ s.marks.size → n ≤ s.marks.reserved ⊎ (s.marks.reserved ≡ 0) → t.marks ≡ produced s.marks n
+      → length t.slots ≡ length s.slots → Sound t
+  sound_produced n l r m x = sound_at (cc) x (grind arith) (grind arith) (grind arith) (grind arith)
 
   sound_consumed : (n : ℕ) → n ≤ waiting s.marks → t.marks ≡ consumed s.marks n → t.slots ≡ s.slots → Sound t
-  sound_consumed n l m x =
-      let less : ahead s.marks.producer (past s.marks.consumer n) ≡ waiting s.marks - n = omega arith in
-      sound_at s t (consumed s.marks n) ok m refl (ap length x) (omega arith) (omega arith) ok.marks.pbits (omega arith)
+  sound_consumed n l m x = sound_at (cc) (ap length x) (grind arith) (grind arith) (grind arith) (grind arith)
 
   sound_reserved : (n : ℕ) → waiting s.marks + n ≤ s.marks.size → t.marks ≡ with_reserved s.marks n → t.slots ≡ s.slots → Sound t
-  sound_reserved n l m x = sound_at s t (with_reserved s.marks n) ok m refl (ap length x) l ok.marks.seen ok.marks.pbits ok.marks.cbits
+  sound_reserved n l m x = sound_at (cc) (ap length x) (grind arith) (grind arith) (grind arith) (grind arith)
 
   sound_peeked : (n : ℕ) → n ≤ waiting s.marks → t.marks ≡ with_peeked s.marks n → t.slots ≡ s.slots → Sound t
-  sound_peeked n l m x = sound_at s t (with_peeked s.marks n) ok m refl (ap length x) ok.marks.fits l ok.marks.pbits ok.marks.cbits
+  sound_peeked n l m x = sound_at (cc) (ap length x) (grind arith) (grind arith) (grind arith) (grind arith)
+
+  sound_written : t.marks ≡ s.marks → length t.slots ≡ length s.slots → Sound t
+  sound_written m x = sound_at (cc) x (grind arith) (grind arith) (grind arith) (grind arith)
 
   sound_same : t ≡ s → Sound t
   sound_same e = subst (λ (u : State E). Sound u) (sym e) ok
@@ -59,8 +58,7 @@ module _ {E : Type 0} (s t : State E) (ok : Sound s) where
   sound_step (Reserve n r) h =
       let a = granted s ok n r t.marks h.moves in
       sound_reserved (s.marks.reserved + r.0) (omega arith) a.1 h.memory
-  sound_step (Put mark e (Ok _)) h =
-      sound_at s t s.marks ok h.1.moves refl (ap length h.1.memory ∙ length-set s.slots (mark % s.marks.size) e) ok.marks.fits ok.marks.seen ok.marks.pbits ok.marks.cbits
+  sound_step (Put mark e (Ok _)) h = sound_written h.1.moves (ap length h.1.memory ∙ length-set s.slots (mark % s.marks.size) e)
   sound_step (Put mark e (Err _)) h = sound_same h.1
   sound_step (Submit n (Ok _)) h =
       let l = inside_count s.marks.reserved n h.0 in

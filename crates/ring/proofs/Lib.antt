@@ -5,5 +5,5 @@ pub mod Powers
 pub mod SpanLaws
 pub mod Steps
 pub mod Kept
-pub mod Single
+pub mod Push
 pub mod Theorem

@@ -9,8 +9,7 @@ use Rattle.ring.specs.Sizes.{SizeFor}
 
 -- exponents are in the order of their powers
 exponents : (i j : ℕ) → 2 ^ i < 2 * 2 ^ j → i ≤ j
-exponents i j h =
-    ⊎_elim (λ l. let p = pow_mono {i = j + 1} {j = i} (omega arith) in let q = pow-add 2 j 1 in absurd (omega arith)) (λ l. l) (cases_lt j i)
+exponents i j h = grind (arith, pow_mono {i = j + 1} {j = i}, pow-add 2 j 1)
 
 pub size_none : (n : ℕ) → min n 256 < 2 → SizeFor n 0
 size_none n h = record {

@@ -1,16 +1,15 @@
 -- What each step does to the lists of a ring.
-use Rattle.std.proofs.Common.{◌≡◌, ℕ, ◌+◌, ◌-◌, ◌%◌, ◌^◌, ◌<◌, ◌≤◌, [], ◌∷◌, ◌++◌, length, get_or, set, None, Ok, Err, Result, sym, refl, ap, ◌∙◌, subst, ⊎_elim, arith}
+use Rattle.std.proofs.Common.{◌≡◌, ℕ, ◌+◌, ◌-◌, ◌%◌, ◌^◌, ◌<◌, ◌≤◌, [], ◌∷◌, length, get_or, set, None, Ok, Err, Result, sym, refl, ap, ◌∙◌, subst, arith}
 use Rattle.std.proofs.lemmas.List.{take_at, drop_at, take-append-drop, nil_from_length, take_more}
-use Rattle.std.proofs.lemmas.Bool.{cases_lt}
 use Rattle.umem.specs.declared.refusal.Refusal.{Refusal}
 use Rattle.umem.specs.declared.refusal.Refusal.TheVariants.{OutsideSpan}
 use Rattle.umem.specs.Refusing.{Answers, NoneApplies}
 use Rattle.umem.proofs.Refusing.{answers_weaker}
 use Rattle.ring.specs.Wrap.{past, ahead}
 use Rattle.ring.specs.Spans.{span}
-use Rattle.ring.specs.Marks.{Numbers, fresh_numbers, waiting, free, with_reserved, produced, consumed, Reserves, Withdraws, Submits, Releases}
+use Rattle.ring.specs.Marks.{Numbers, fresh_numbers, waiting, free, with_reserved, produced, consumed, Reserves, Withdraws, Submits, Cancels, Releases}
 use Rattle.ring.specs.Sizes.{SizeFor}
-use Rattle.ring.specs.Rings.{State, Sound, Made, queue, draft, Reserved, Written, Submitted, RingSubmits, Withdrawn, RingWithdraws, Read, Released, RingReleases, Pops, Takes}
+use Rattle.ring.specs.Rings.{State, Sound, Made, queue, draft, Reserved, Written, Submitted, RingSubmits, Withdrawn, RingWithdraws, Cancelled, RingCancels, Read, Released, RingReleases, Pops, Takes}
 use Rattle.ring.proofs.Inside.{inside_count}
 use Rattle.ring.proofs.SpanLaws.{span_set, span_set_other, span_split, length-span, get_or-span}
 
@@ -39,16 +38,12 @@ module _ {E : Type 0} (s : State E) (ok : Sound s) where
       let p = s.marks.producer in
       let w = waiting s.marks in
       let r = s.marks.reserved in
-      let more : ahead (past p n) c ≡ w + n = omega arith in
-      let here : past c w ≡ p = omega arith in
-      let all : n + (r - n) ≡ r = omega arith in
-      let len : length (span z p n s.slots) ≡ n = length-span z p n s.slots ok.room (omega arith) in
       let joint = span_split z c w n s.slots ok.marks.whole ok.room (omega arith) in
       let cut = span_split z p n (r - n) s.slots ok.marks.whole ok.room (omega arith) in
-      let parts : draft s ≡ span z p n s.slots ++ span z (past p n) (r - n) s.slots = cc in
-      let front = take_at _ (span z (past p n) (r - n) s.slots) n len in
-      let back = drop_at _ (span z (past p n) (r - n) s.slots) n len in
-      record { moves = refl; memory = refl; waits = cc; drafts = cc }
+      let long = length-span z p n s.slots ok.room (omega arith) in
+      let front = take_at (span z p n s.slots) (span z (past p n) (r - n) s.slots) n long in
+      let back = drop_at (span z p n s.slots) (span z (past p n) (r - n) s.slots) n long in
+      record { moves = refl; memory = refl; waits = grind arith; drafts = grind arith }
 
   pub submits : (n : ℕ) (r : Result (Unit {0}) Refusal) (k : Numbers) → Submits s.marks n r k → RingSubmits s n r (with_marks s k)
   submits n r k h = lifted s k (Submitted s n) r h (λ l. submitted n (inside_count _ _ l))
@@ -57,57 +52,39 @@ module _ {E : Type 0} (s : State E) (ok : Sound s) where
   withdrawn n l =
       let z = s.marks.size in
       let p = s.marks.producer in
-      let r = s.marks.reserved in
-      let all : (r - n) + n ≡ r = omega arith in
-      let len : length (span z p (r - n) s.slots) ≡ r - n = length-span z p (r - n) s.slots ok.room (omega arith) in
-      let cut = span_split z p (r - n) n s.slots ok.marks.whole ok.room (omega arith) in
-      let parts : draft s ≡ span z p (r - n) s.slots ++ span z (past p (r - n)) n s.slots = cc in
-      let front = take_at _ (span z (past p (r - n)) n s.slots) (r - n) len in
-      record { moves = refl; memory = refl; waits = refl; drafts = cc }
+      let k = s.marks.reserved - n in
+      let cut = span_split z p k n s.slots ok.marks.whole ok.room (omega arith) in
+      let front = take_at (span z p k s.slots) (span z (past p k) n s.slots) k (length-span z p k s.slots ok.room (omega arith)) in
+      record { moves = refl; memory = refl; waits = refl; drafts = grind arith }
 
   pub withdraws : (n : ℕ) (r : Result (Unit {0}) Refusal) (k : Numbers) → Withdraws s.marks n r k → RingWithdraws s n r (with_marks s k)
   withdraws n r k h = lifted s k (Withdrawn s n) r h (λ l. withdrawn n (inside_count _ _ l))
 
   -- what a reserve leaves, whether it grants the slots or not
   pub granted : (n : ℕ) (r : ℕ × ℕ) (t : Numbers) → Reserves s.marks n r t → (r.0 ≤ free s.marks) × (t ≡ with_reserved s.marks (s.marks.reserved + r.0))
-  granted n r t h =
-      ⊎_elim
-      (λ l.
-      let a = h.none l in
-      let z : s.marks.reserved ≡ s.marks.reserved + r.0 = omega arith in
-      (omega arith, a.1 ∙ ap (with_reserved s.marks) z))
-      (λ l. let a = h.all l in (omega arith, a.1 ∙ ap (λ (k : ℕ). with_reserved s.marks (s.marks.reserved + k)) (sym a.0)))
-      (cases_lt (free s.marks) n)
+  granted n r t h = grind arith
 
   pub reserved : (n : ℕ) (r : ℕ × ℕ) (k : Numbers) → Reserves s.marks n r k → Reserved s n r (with_marks s k)
   reserved n r k h =
-      let z = s.marks.size in
-      let p = s.marks.producer in
-      let a = granted n r k h in
-      let joint = span_split z p s.marks.reserved r.0 s.slots ok.marks.whole ok.room (omega arith) in
-      record {
-        moves = h;
-        memory = refl;
-        waits = cc;
-        drafts = let first = h.first in cc;
-      }
+      let is = granted n r k h in
+      let first = h.first in
+      let joint = span_split s.marks.size s.marks.producer s.marks.reserved r.0 s.slots ok.marks.whole ok.room (omega arith) in
+      record { moves = h; memory = refl; waits = cc; drafts = cc }
 
   released : (n : ℕ) → n ≤ waiting s.marks → Released s n (with_marks s (consumed s.marks n))
   released n l =
       let z = s.marks.size in
       let c = s.marks.consumer in
-      let p = s.marks.producer in
       let w = waiting s.marks in
-      let less : ahead p (past c n) ≡ w - n = omega arith in
-      let all : n + (w - n) ≡ w = omega arith in
-      let len : length (span z c n s.slots) ≡ n = length-span z c n s.slots ok.room (omega arith) in
       let cut = span_split z c n (w - n) s.slots ok.marks.whole ok.room (omega arith) in
-      let parts : queue s ≡ span z c n s.slots ++ span z (past c n) (w - n) s.slots = cc in
-      let back = drop_at _ (span z (past c n) (w - n) s.slots) n len in
-      record { moves = refl; memory = refl; waits = cc; drafts = refl }
+      let back = drop_at (span z c n s.slots) (span z (past c n) (w - n) s.slots) n (length-span z c n s.slots ok.room (omega arith)) in
+      record { moves = refl; memory = refl; waits = grind arith; drafts = refl }
 
   pub releases : (n : ℕ) (r : Result (Unit {0}) Refusal) (k : Numbers) → Releases s.marks n r k → RingReleases s n r (with_marks s k)
   releases n r k h = lifted s k (Released s n) r h (λ l. let i = inside_count _ _ l in released n (omega arith))
+
+  pub cancels : (n : ℕ) (r : Result (Unit {0}) Refusal) (k : Numbers) → Cancels s.marks n r k → RingCancels s n r (with_marks s k)
+  cancels n r k h = lifted s k (Cancelled s n) r h (λ _. record { moves = refl; memory = refl; waits = refl; drafts = refl })
 
   pub written :
       (mark : ℕ) (e : E) → ahead mark s.marks.producer < s.marks.reserved → mark < 2 ^ 32
@@ -117,24 +94,17 @@ module _ {E : Type 0} (s : State E) (ok : Sound s) where
       let c = s.marks.consumer in
       let p = s.marks.producer in
       let w = waiting s.marks in
-      let r = s.marks.reserved in
       let j = ahead mark p in
-      let here : past p j ≡ mark = omega arith in
-      let there : past c (w + j) ≡ mark = omega arith in
-      let inside = span_set z p r j s.slots e ok.marks.whole ok.room (omega arith) l in
+      let inside = span_set z p s.marks.reserved j s.slots e ok.marks.whole ok.room (omega arith) l in
       let outside = span_set_other z c w (w + j) s.slots e ok.marks.whole ok.room (omega arith) (omega arith) in
-      record { moves = refl; memory = refl; waits = cc; drafts = cc }
+      record { moves = refl; memory = refl; waits = grind arith; drafts = grind arith }
 
   -- the slot of a waiting entry
   read_at :
       (mark : ℕ) (d : E) → ahead mark s.marks.consumer < waiting s.marks → mark < 2 ^ 32
       → get_or (queue s) (ahead mark s.marks.consumer) d ≡ get_or s.slots (mark % s.marks.size) d
   read_at mark d l h =
-      let z = s.marks.size in
-      let c = s.marks.consumer in
-      let here : past c (ahead mark c) ≡ mark = omega arith in
-      get_or-span z c (waiting s.marks) (ahead mark c) s.slots d ok.marks.whole ok.room (omega arith) l
-      ∙ ap (λ (m : ℕ). get_or s.slots (m % z) d) here
+      grind (arith, get_or-span s.marks.size s.marks.consumer (waiting s.marks) (ahead mark s.marks.consumer) s.slots d ok.marks.whole ok.room)
 
   pub read :
       (mark : ℕ) (e : E) → ahead mark s.marks.consumer < s.marks.peeked → mark < 2 ^ 32
@@ -144,15 +114,12 @@ module _ {E : Type 0} (s : State E) (ok : Sound s) where
   -- a new ring
   pub made : (start : ℕ) → s.marks ≡ fresh_numbers s.marks.size start → SizeFor (length s.slots) s.marks.size → Made s.slots start s
   made start m z =
-      let p = ap (λ (k : Numbers). k.producer) m in
-      let c = ap (λ (k : Numbers). k.consumer) m in
-      let r = ap (λ (k : Numbers). k.reserved) m in
       record {
         size = z;
         fresh = m;
         memory = refl;
-        waits = nil_from_length (queue s) (omega (arith, length-queue));
-        drafts = nil_from_length (draft s) (omega (arith, length-draft));
+        waits = nil_from_length (queue s) (grind (arith, length-queue));
+        drafts = nil_from_length (draft s) (grind (arith, length-draft));
       }
 
   -- the oldest entry leaves
@@ -161,14 +128,13 @@ module _ {E : Type 0} (s : State E) (ok : Sound s) where
       → k ≡ consumed s.marks 1 → Takes s 1 (Ok (e ∷ [])) (with_marks s k)
   popped e k l x m =
       let rest = released 1 l in
-      let zero : ahead s.marks.consumer s.marks.consumer ≡ 0 = omega arith in
-      let some : 0 < length (queue s) = omega (arith, length-queue) in
-      let oldest : get_or (queue s) 0 e ≡ e =
-      ap (λ (i : ℕ). get_or (queue s) i e) (sym zero) ∙ read_at s.marks.consumer e (omega arith) (omega arith) ∙ sym (x e) in
-      let first = take_more (queue s) 0 e some in
+      let long = length-queue in
+      let oldest = read_at s.marks.consumer e in
+      let is = x e in
+      let first = take_more (queue s) 0 e (omega arith) in
       let split = take-append-drop 1 (queue s) in
       subst (λ (k : Numbers). Takes s 1 (Ok (e ∷ [])) (with_marks s k)) (sym m)
-      (λ _ few. omega (arith, few.1), (refl, record { moves = refl; memory = refl; waits = cc; drafts = refl }))
+      (λ _ few. omega (arith, few.1), (refl, record { moves = refl; memory = refl; waits = grind arith; drafts = refl }))
 
   -- where none waits, none leaves
   pub none_popped : waiting s.marks ≡ 0 → Pops s None s × Takes s 1 (Err OutsideSpan) s

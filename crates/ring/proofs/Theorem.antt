@@ -1,5 +1,5 @@
 -- First in, first out, over every run: by induction on the past, a step at a time.
-use Rattle.std.proofs.Common.{◌≡◌, ℕ, ◌+◌, ◌-◌, ◌%◌, ◌^◌, ◌<◌, ◌≤◌, List, [], ◌∷◌, ◌++◌, length, get_or, take, drop, set, Ok, Err, sym, refl, ap, ◌∙◌, subst, arith}
+use Rattle.std.proofs.Common.{◌≡◌, ℕ, ◌+◌, ◌-◌, ◌%◌, ◌^◌, ◌<◌, ◌≤◌, List, [], ◌∷◌, ◌++◌, length, take, drop, set, Ok, Err, sym, refl, ap, ◌∙◌, subst, arith}
 use Rattle.std.proofs.lemmas.List.{take-append-drop, take_at, drop_at, drop-drop, drop-append-le, get_or-drop, length-append, length-drop, length-take-le}
 use Rattle.ring.specs.Wrap.{past, ahead}
 use Rattle.ring.specs.Spans.{span}
@@ -44,7 +44,7 @@ module _ {E : Type 0} (z start : ℕ) (h : History E) (s t : State E) (ok : Soun
         drafts = cc;
         memory = cc;
         producer = cc;
-        consumer = ap (λ (k : Numbers). k.consumer) m ∙ omega arith;
+        consumer = grind arith;
       }
 
   -- entries xs have come, n of them
@@ -62,7 +62,7 @@ module _ {E : Type 0} (z start : ℕ) (h : History E) (s t : State E) (ok : Soun
         within = omega arith;
         drafts = e;
         memory = x;
-        producer = ap (λ (k : Numbers). k.producer) m ∙ p ∙ omega arith;
+        producer = grind arith;
         consumer = cc;
       }
 
@@ -127,9 +127,8 @@ module _ {E : Type 0} (z start : ℕ) (h : History E) (s t : State E) (ok : Soun
   agrees_step (Push e (Err _)) w = agrees_same w.1
   agrees_step (Take n (Ok xs)) w =
       let l = inside_count (waiting s.marks) n w.0 in
-      let long = w.1.0 in
-      let m = w.1.1.moves ∙ ap (consumed s.marks) long in
-      agrees_left n (omega arith) m w.1.1.memory (sym (ap (drop n) w.1.1.waits ∙ drop_at xs (queue t) n long)) w.1.1.drafts
+      let rest = drop_at xs (queue t) n w.1.0 in
+      agrees_left n (omega arith) (cc) w.1.1.memory (cc) w.1.1.drafts
   agrees_step (Take n (Err _)) w = agrees_same w.1
 
   answered : (e : Event E) → Step s e t → Answered start h e
@@ -141,28 +140,23 @@ module _ {E : Type 0} (z start : ℕ) (h : History E) (s t : State E) (ok : Soun
   answered (Get mark (Ok e)) w =
       let l = inside_mark s.marks.peeked (ahead mark s.marks.consumer) w.0.0 in
       let on = waits_on in
-      let at : ahead mark s.marks.consumer ≡ ahead mark (consumer_at start h) = ap (ahead mark) a.consumer in (
-        omega arith,
-        λ d.
-            w.0.1.waits d ∙ ap (λ (i : ℕ). get_or (queue s) i d) at ∙ ap (λ (xs : List E). get_or xs (ahead mark (consumer_at start h)) d) a.rest
-            ∙ get_or-drop h.left h.submitted (ahead mark (consumer_at start h)) d,
-      )
+      let there : ahead mark s.marks.consumer ≡ ahead mark (consumer_at start h) = ap (ahead mark) a.consumer in
+      (omega arith, λ d. let is = w.0.1.waits d in let same = get_or-drop h.left h.submitted (ahead mark (consumer_at start h)) d in cc)
   answered (Get mark (Err _)) w = tt
   answered (Cancel n r) w = tt
   answered (Release n r) w = tt
   answered (Push e r) w = tt
   answered (Take n (Ok xs)) w =
-      sym (ap (take n) (sym a.rest) ∙ ap (take n) w.1.1.waits ∙ take_at xs (queue t) n w.1.0)
+      let first = take_at xs (queue t) n w.1.0 in cc
   answered (Take n (Err _)) w = tt
 
   fifo : Fifo z start h s
   fifo =
       let q = length-queue s ok in
       let w = waits_on in
-      let b = a.size in
       record {
         size = a.size;
-        order = sym (ap (λ (xs : List E). take h.left h.submitted ++ xs) a.rest ∙ take-append-drop h.left h.submitted);
+        order = let all = take-append-drop h.left h.submitted in cc;
         counted = omega arith;
         bounded = omega arith;
         drafts = a.drafts;

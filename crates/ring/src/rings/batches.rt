@@ -3,13 +3,14 @@ ghost use Rattle.ring.specs.Rings.{Cancelled};
 
 use super::Ring;
 
-// The guard of a batch: `count` entries were peeked for it. Make it in place by its literal.
+// The guard of a batch: `count` entries were peeked for it. Make it in place by its literal: of a ring that is lent to a
+// function which makes the guard, a proof knows nothing once the guard is gone.
 pub(super) struct Batch<'r, 'a, E: Copy> {
     pub(super) ring: &'r mut Ring<'a, E>,
     pub(super) count: u32,
 }
 
-impl<'r, 'a, E: Copy> Drop for Batch<'r, 'a, E> {
+impl<E: Copy> Drop for Batch<'_, '_, E> {
     // What is still peeked is cancelled, as far as this batch peeked it.
     fn drop(self)
         ensures { Cancelled self.entry.ring.now self.entry.count self.exit.0.now }

@@ -15,7 +15,7 @@ impl<'a, E> Ring<'a, E> {
         Ring { marks, slots }
     }
 
-    // How many slots there are.
+    // How many slots there are. Here stands what holds of every ring.
     pub fn size(&self) -> u32
         ensures slots { result ≡ self.now.marks.size }
         ensures sound { Sound self.now }

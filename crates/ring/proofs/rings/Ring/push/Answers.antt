@@ -2,7 +2,7 @@ use Rattle.std.proofs.Common.{◌≡◌, ap, arith}
 use Rattle.ring.specs.Rings.{State}
 use Rattle.ring.specs.Runs.{Reserve}
 use Rattle.ring.proofs.Kept.{sound_step}
-use Rattle.ring.proofs.Single.{pushes}
+use Rattle.ring.proofs.Push.{pushes}
 use Rattle.ring.proofs.rings.Ring.push.Goals as goal
 
 pub returns : goal.returns
