@@ -1,6 +1,6 @@
 use Rattle.std.proofs.Common.{[], ◌+◌, ◌*◌, length, arith}
 use Rattle.std.proofs.lemmas.Result.{err_from_is_err_and}
-use Rattle.trace.proofs.Steps.{wrong_next, stand_more}
+use Rattle.trace.proofs.Said.{wrong_next, stand_more}
 use Rattle.trace.proofs.traces.end_of.Goals as goal
 
 pub returns-in_err-end : goal.returns-in_err-end
