@@ -59,7 +59,8 @@ module _ (rs : List Record) (h : Traceable rs) where
   unfolding packed
   file_stands rows head =
       let qs = map laid rs in
-      let n : length rows ≡ length qs = head.value ∙ count_back rs h ∙ sym (length-map rs laid) in
+      let f = head.few in
+      let n : length rows ≡ length qs = number_said (length rows) (take 4 (file rs)) (omega arith) head.bytes_of ∙ count_back rs h ∙ sym (length-map rs laid) in
       let a = start (length qs) in
       let e : rows ≡ map row_of (placed a qs) =
       head.listed ∙ ap (λ (k : ℕ). first_chunks 8 k (drop 4 (file rs))) n ∙ table_rows a qs (all qs)
@@ -111,11 +112,9 @@ pub headed :
 headed bytes count rest rows n (front, back, long) said cut many few inside =
     let l = length-take-le n rows inside in
     let w : word n ≡ take 4 bytes = said ∙ front in
-    let v = number_said n (take 4 bytes) (omega arith) w in
     let t = chunks_taken 8 n (length rest / 8) rest (omega arith) in
     record {
       few = omega arith;
-      value = l ∙ v;
       bytes_of = ap word l ∙ w;
       long = omega arith;
       listed = ap (take n) cut ∙ t ∙ ap (first_chunks 8 n) back ∙ ap (λ (k : ℕ). first_chunks 8 k (drop 4 bytes)) (sym l);

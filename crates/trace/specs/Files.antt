@@ -29,7 +29,6 @@ FoundNoTrace bytes e = (e ≡ NotATrace) × NoRecords bytes
 -- the first four bytes are a count that a trace can have, the table lies in the file, and these are its rows
 pub record Headed (bytes : List ℕ) (rows : List (List ℕ)) : Type 0 where
   pub few : length rows ≤ 1024
-  pub value : length rows ≡ word_at bytes 0
   pub bytes_of : word (length rows) ≡ take 4 bytes
   pub long : 4 + 8 * length rows ≤ length bytes
   pub listed : rows ≡ first_chunks 8 (length rows) (drop 4 bytes)

@@ -120,7 +120,7 @@ fn next_end(pair: Pair, end: usize) -> Result<usize, Refusal>
     ensures { MatchResult result (λ e. (e ≡ end + pair.length) × FollowsOn pair end) (λ e. (e ≡ NotATrace) × ¬ (FollowsOn pair end)) }
 {
     let length = pair.length as usize;
-    if pair.offset as usize != end || length < MIN_RECORD || length > MAX_RECORD {
+    if pair.offset as usize != end || !(MIN_RECORD..=MAX_RECORD).contains(&length) {
         return Err(Refusal::NotATrace);
     }
     Ok(end + length)
