@@ -6,7 +6,7 @@ use Rattle.std.proofs.lemmas.Bool.{cases_lt}
 use Rattle.model.specs.Traces.{Throughout, RecordLength, value, word, word_at}
 use Rattle.model.proofs.Packing.{value_low}
 use Rattle.trace.specs.declared.pairs.Pair.{Pair}
-use Rattle.trace.specs.Files.{Headed, FollowsOn, StandFrom, pair_in}
+use Rattle.trace.specs.Files.{Headed, Follows, StandFrom, pair_in}
 use Rattle.trace.specs.Pairs.{row_of, rows, Gapless, Sized}
 use Rattle.trace.proofs.Chains.{Chained, chained, ends_within, one_end, next_of, gapless_more}
 use Rattle.trace.proofs.Held.{pair_at}
@@ -70,15 +70,15 @@ pair_read bytes rows i d p head h fo fl e =
 
 -- one row more
 pub stand_more :
-    (place : ℕ) (rows : List (List ℕ)) (i end : ℕ) (d : List ℕ) (p : Pair) →
+    (place : ℕ) (rows : List (List ℕ)) (i end next : ℕ) (d : List ℕ) (p : Pair) →
     i < length rows →
     p.offset < 2 ^ 32 →
     p.length < 2 ^ 32 →
     row_of p ≡ get_or rows i d →
     StandFrom place (take i rows) end →
-    FollowsOn p end →
-    StandFrom place (take (i + 1) rows) (end + p.length)
-stand_more place rows i end d p h fo fl e s f =
+    Follows p end next →
+    StandFrom place (take (i + 1) rows) next
+stand_more place rows i end next d p h fo fl e s f =
     let ps = map pair_in (take i rows) in
     let more : take (i + 1) rows ≡ take i rows ++ get_or rows i d ∷ [] = take_more rows i d h in
     let m : map pair_in (take (i + 1) rows) ≡ ps ++ p ∷ [] =
@@ -93,7 +93,7 @@ stand_more place rows i end d p h fo fl e s f =
           ∙ ap (λ (r : List ℕ). take i rows ++ r ∷ []) e
           ∙ sym more;
       sized = subst Sized (sym m) (throughout_push (λ q. RecordLength q.length) ps p s.sized f.sized);
-      gapless = subst (λ (qs : List Pair). Gapless place qs (end + p.length)) (sym m) (gapless_more place ps p end (end + p.length) f.begins refl s.gapless);
+      gapless = subst (λ (qs : List Pair). Gapless place qs next) (sym m) (gapless_more place ps p end next f.begins f.ends s.gapless);
     }
 
 -- a row whose pair doesn't follow on stands in no such rows
@@ -104,7 +104,7 @@ pub wrong_next :
     p.length < 2 ^ 32 →
     row_of p ≡ get_or rows i d →
     StandFrom place (take i rows) end →
-    ¬ (FollowsOn p end) →
+    ((next : ℕ) → ¬ (Follows p end next)) →
     (e : ℕ) → ¬ (StandFrom place rows e)
 wrong_next place rows i end d p h fo fl r t wrong e s =
     let ps = map pair_in rows in
@@ -115,7 +115,7 @@ wrong_next place rows i end d p h fo fl r t wrong e s =
     in
     let o = next_of place ps e end i p (chained place ps e s.gapless) front (omega arith) in
     let P : Pair → Type 0 = λ a. RecordLength a.length in
-    wrong (record { begins = sym (ap (λ (a : Pair). a.offset) q) ∙ o; sized = subst P q (s.sized i p (omega arith)) })
+    wrong (end + p.length) (record { begins = sym (ap (λ (a : Pair). a.offset) q) ∙ o; sized = subst P q (s.sized i p (omega arith)); ends = refl })
 
 -- the record of each row ends within them, and has a byte
 pub row_within :
