@@ -11,7 +11,7 @@ use Rattle.trace.specs.Pairs.{cut, cut_records, Gapless, Sized}
 use Rattle.trace.specs.Recordings.{pairs, held_records}
 use Rattle.trace.proofs.Chains.{Chained, chained, chained_below, parts_kept, gapless_more}
 use Rattle.trace.proofs.Rows.{listed_fit}
-use Rattle.trace.proofs.Steps.{throughout_push}
+use Rattle.trace.proofs.Said.{throughout_push}
 
 module _ (s : Recording) where
   chain : Chained 0 (pairs s) s.used

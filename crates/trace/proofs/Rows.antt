@@ -35,12 +35,6 @@ module _ (ps : List Pair) (area : List ℕ) (h : Listed ps area) where
       let f = h.few in
       omega arith
 
-  pub listed_below : length area ≤ 1793 * 1024
-  listed_below =
-      let b = chained_below 0 ps (length area) chain h.sized in
-      let f = h.few in
-      omega arith
-
   -- the file is the count, the rows of the pairs and the bytes
   pub listed_file : file (cut_records area ps) ≡ word (length ps) ++ (rows (start (length ps)) ps ++ area)
   unfolding packed

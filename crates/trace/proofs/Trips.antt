@@ -1,39 +1,26 @@
 -- Reading and writing undo each other.
-use Rattle.std.proofs.Common.{◌≡◌, ℕ, List, take, Ok, Err, Result, sym, ap, ◌∙◌, subst, arith}
+use Rattle.std.proofs.Common.{◌≡◌, ℕ, List, take, Ok, Err, Result, sym, ap, ◌∙◌, arith}
 use Rattle.umem.specs.declared.refusal.Refusal.{Refusal}
 use Rattle.umem.specs.Refusals.{number}
-use Rattle.umem.specs.Refusing.{NoneApplies, Smallest}
+use Rattle.umem.specs.Refusing.{Smallest}
 use Rattle.umem.proofs.Written.{front_written}
 use Rattle.model.specs.Traces.{Record, Traceable, file}
 use Rattle.model.proofs.Packing.{files_tell}
-use Rattle.trace.specs.declared.traces.Trace.{Trace}
-use Rattle.trace.specs.Meanings.{records_of, Accepted}
+use Rattle.trace.specs.Meanings.{records_of}
 use Rattle.trace.specs.Files.{FoundNoTrace}
-use Rattle.trace.specs.Reading.{ReadApplies, Reads}
-use Rattle.trace.specs.Writing.{Writes, ReadsBack, Rewrites}
+use Rattle.trace.specs.Reading.{ReadApplies}
+use Rattle.trace.specs.Writing.{Writes, ReadsBack}
 
 -- WHAT READING ANSWERS
 
 pub refused : (bytes : List ℕ) (e : Refusal) → FoundNoTrace bytes e → Smallest (ReadApplies bytes) (number e)
 refused bytes e (is, none) = ((ap number is, none), λ m a. let p = ap number is in let q = a.0 in omega arith)
 
--- what comes out of reading where a step found no trace
-pub broken : (bytes : List ℕ) (r : Result Trace Refusal) (e : Refusal) → FoundNoTrace bytes e → r ≡ Err e → Reads bytes r × Rewrites bytes r
-broken bytes r e h is =
-    let P : Result Trace Refusal → Type 0 = λ s. Reads bytes s × Rewrites bytes s in
-    subst P (sym is) ((refused bytes e h, tt), tt)
-
-pub served : (t : Trace) → Accepted t → NoneApplies (ReadApplies t.file.now)
-served t whole n (_, none) = none (records_of t) whole.fits whole.exact
-
 -- THERE AND BACK
 
 -- the file stands at the front of the buffer that it was written to
 written_file : (rs : List Record) (before after : List ℕ) (n : ℕ) → Writes rs before after (Ok n) → take n after ≡ file rs
 written_file rs before after n (_, (e, w)) = ap (take n) w ∙ front_written before (file rs) 0 n (omega arith) (omega arith)
-
-pub rewrites : (t : Trace) → Accepted t → Rewrites t.file.now (Ok t)
-rewrites t whole before after n h = written_file (records_of t) before after n h ∙ whole.exact
 
 pub reads_back_of : (rs : List Record) (before after : List ℕ) (r : Result ℕ Refusal) → Traceable rs → Writes rs before after r → ReadsBack rs after r
 reads_back_of rs before after (Err e) h w = tt

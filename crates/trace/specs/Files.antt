@@ -29,7 +29,6 @@ FoundNoTrace bytes e = (e ≡ NotATrace) × NoRecords bytes
 -- the first four bytes are a count that a trace can have, the table lies in the file, and these are its rows
 pub record Headed (bytes : List ℕ) (rows : List (List ℕ)) : Type 0 where
   pub few : length rows ≤ 1024
-  pub value : length rows ≡ word_at bytes 0
   pub bytes_of : word (length rows) ≡ take 4 bytes
   pub long : 4 + 8 * length rows ≤ length bytes
   pub listed : rows ≡ first_chunks 8 (length rows) (drop 4 bytes)
@@ -38,10 +37,15 @@ pub record Headed (bytes : List ℕ) (rows : List (List ℕ)) : Type 0 where
 abbrev pub pair_in : List ℕ → Pair
 pair_in row = record { offset = word_at row 0; length = word_at row 4 }
 
--- the record of a pair begins where its forerunner ended, and is as long as a record is
-pub record FollowsOn (p : Pair) (end : ℕ) : Type 0 where
-  pub begins : p.offset ≡ end
+-- no end is such, so the bytes are no trace
+abbrev pub NoEnd : (ℕ → Type 0) → Refusal → Type 0
+NoEnd IsEnd e = (e ≡ NotATrace) × ((end : ℕ) → ¬ (IsEnd end))
+
+-- the record of a pair begins at a place, is as long as a record is, and so ends there
+pub record Follows (p : Pair) (place end : ℕ) : Type 0 where
+  pub begins : p.offset ≡ place
   pub sized : RecordLength p.length
+  pub ends : end ≡ place + p.length
 
 -- rows say pairs that follow one another from a place to an end, each as long as a record is
 pub record StandFrom (place : ℕ) (rows : List (List ℕ)) (end : ℕ) : Type 0 where

@@ -13,4 +13,4 @@ mod writing;
 pub use layout::Record;
 pub use pairs::Pair;
 pub use recording::Recording;
-pub use traces::Trace;
+pub use traces::{Records, Trace};

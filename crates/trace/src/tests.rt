@@ -72,10 +72,12 @@ fn one_record(rt: HostRuntime) -> Result<(), Fail> {
     assert_eq!(rt; &buffer[25..30], &back[0..5]);
     let trace = Trace::read(&buffer[0..27])?;
     assert_eq!(rt; trace.count(), 1);
-    let record = trace.record(0).ok_or("no record 0")?;
-    assert_eq!(rt; record.port, 5);
-    assert_eq!(rt; record.packet, &packet[0..14]);
-    assert!(rt; trace.record(1).is_none());
+    let record = Record {
+        port: 5,
+        packet: &packet,
+    };
+    assert_eq!(rt; trace.record(0), Some(record));
+    assert_eq!(rt; trace.record(1), None);
     Ok(())
 }
 
@@ -97,7 +99,7 @@ fn records_in_order(rt: HostRuntime) -> Result<(), Fail> {
     let trace = Trace::read(&buffer)?;
     let mut seen = 0;
     for (n, record) in trace.records().enumerate() {
-        assert!(rt; trace.record(n) == Some(record));
+        assert_eq!(rt; trace.record(n), Some(record));
         assert_eq!(rt; record.port as usize, n);
         seen = n + 1;
     }

@@ -1,7 +1,6 @@
 // Reading a trace file, whose records are parts of it.
-ghost use Rattle.std.specs.Prelude.{◌≡◌, ℕ, ◌+◌, length, MatchResult};
-ghost use Rattle.umem.specs.declared.refusal.Refusal.TheVariants.{NotATrace};
-ghost use Rattle.trace.specs.Files.{FollowsOn, FoundNoTrace, Headed, IsTrace, Stand};
+ghost use Rattle.std.specs.Prelude.{◌≡◌, length, MatchResult};
+ghost use Rattle.trace.specs.Files.{Follows, FoundNoTrace, Headed, IsTrace, NoEnd, Stand};
 
 use crate::layout::{MAX_RECORD, MAX_RECORDS, MIN_RECORD, Record};
 use crate::pairs::Pair;
@@ -106,7 +105,7 @@ fn table_in(file: &[u8]) -> Result<&[[u8; 8]], Refusal>
 
 // Where the last record ends, if each begins where its forerunner ended.
 fn end_of(rows: &[[u8; 8]]) -> Result<usize, Refusal>
-    ensures { MatchResult result (Stand rows.now) (λ e. (e ≡ NotATrace) × ((end : ℕ) → ¬ (Stand rows.now end))) }
+    ensures { MatchResult result (Stand rows.now) (NoEnd (Stand rows.now)) }
 {
     let mut end = 4 + 8 * rows.len();
     for row in rows {
@@ -115,13 +114,13 @@ fn end_of(rows: &[[u8; 8]]) -> Result<usize, Refusal>
     Ok(end)
 }
 
-// Where the record of a pair ends, if it begins where its forerunner ended.
-fn next_end(pair: Pair, end: usize) -> Result<usize, Refusal>
-    ensures { MatchResult result (λ e. (e ≡ end + pair.length) × FollowsOn pair end) (λ e. (e ≡ NotATrace) × ¬ (FollowsOn pair end)) }
+// Where the record of a pair ends, if it begins at this place, where its forerunner ended.
+fn next_end(pair: Pair, place: usize) -> Result<usize, Refusal>
+    ensures { MatchResult result (Follows pair place) (NoEnd (Follows pair place)) }
 {
     let length = pair.length as usize;
-    if pair.offset as usize != end || length < MIN_RECORD || length > MAX_RECORD {
+    if pair.offset as usize != place || !(MIN_RECORD..=MAX_RECORD).contains(&length) {
         return Err(Refusal::NotATrace);
     }
-    Ok(end + length)
+    Ok(place + length)
 }

@@ -1,6 +1,6 @@
 use Rattle.std.proofs.Common.{[], ◌+◌, ◌*◌, length, arith}
 use Rattle.std.proofs.lemmas.Result.{err_from_is_err_and}
-use Rattle.trace.proofs.Steps.{wrong_next, stand_more}
+use Rattle.trace.proofs.Said.{wrong_next, stand_more}
 use Rattle.trace.proofs.traces.end_of.Goals as goal
 
 pub returns-in_err-end : goal.returns-in_err-end
@@ -13,5 +13,4 @@ returns-in_err-end c =
 pub loop-row-preserved : goal.loop-row-preserved
 loop-row-preserved c =
     let rows = c.args.rows.now in
-    rw c.in_ok-end.ensures.0
-    (stand_more (4 + 8 * length rows) rows c.loop-row.row-index c.loop-row.end [] c.from.result c.loop-row-test.true (omega arith) (omega arith) c.from.ensures c.loop-row.invariant c.in_ok-end.ensures.1)
+    stand_more (4 + 8 * length rows) rows c.loop-row.row-index c.loop-row.end c.in_ok-end.end [] c.from.result c.loop-row-test.true (omega arith) (omega arith) c.from.ensures c.loop-row.invariant c.in_ok-end.ensures

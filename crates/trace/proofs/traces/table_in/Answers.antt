@@ -1,5 +1,5 @@
 use Rattle.std.proofs.Common.{refl, ◌∙◌, arith}
-use Rattle.trace.proofs.Steps.{number_said}
+use Rattle.trace.proofs.Said.{number_said}
 use Rattle.trace.proofs.Steps.{too_short, wrong_head, headed}
 use Rattle.trace.proofs.traces.table_in.Goals as goal
 

@@ -1,6 +1,6 @@
 use Rattle.std.proofs.Common.{length, ap, arith}
 use Rattle.trace.specs.Meanings.{meant, records_of}
-use Rattle.trace.proofs.Held.{first_left, none_left, length-records_in}
+use Rattle.trace.proofs.Held.{first_left, none_left}
 use Rattle.trace.proofs.traces.RecordsIterator.next.Goals as goal
 
 pub returns-in_err-record-clause-steps : goal.returns-in_err-record-clause-steps
@@ -8,14 +8,6 @@ returns-in_err-record-clause-steps c =
     let s = c.args.self.now in
     let none = none_left (records_of s.trace) s.seen c.in_err-record.ensures in
     rw c.from_residual.ensures (none, none)
-
-pub overflow_add-self : goal.overflow_add-self
-overflow_add-self c =
-    let s = c.args.self.now in
-    let l = first_left (records_of s.trace) s.seen (meant c.in_ok-record.record) c.in_ok-record.ensures in
-    let n = length-records_in s.trace.file.now (length s.trace.rows.now) in
-    let f = s.trace.headed.few in
-    omega arith
 
 pub returns : goal.returns
 returns c =

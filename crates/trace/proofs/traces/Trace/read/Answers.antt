@@ -2,7 +2,8 @@ use Rattle.std.proofs.Common.{◌+◌, ◌*◌, length, refl, subst}
 use Rattle.std.proofs.lemmas.Result.{err_from_is_err_and}
 use Rattle.umem.specs.declared.refusal.Refusal.TheVariants.{NotATrace}
 use Rattle.trace.specs.Files.{Stand}
-use Rattle.trace.proofs.Steps.{wrong_rows, same_end, made}
+use Rattle.trace.proofs.Said.{same_end}
+use Rattle.trace.proofs.Steps.{wrong_rows, made}
 use Rattle.trace.proofs.Trips.{refused}
 use Rattle.trace.proofs.traces.Trace.read.Goals as goal
 

@@ -2,7 +2,7 @@ use Rattle.std.proofs.Common.{◌+◌, ◌*◌, ◌<◌, ◌≤◌, length, sym,
 use Rattle.std.proofs.lemmas.Option.{slice_get_past}
 use Rattle.trace.specs.Meanings.{records_of}
 use Rattle.trace.proofs.Held.{length-records_in, shown}
-use Rattle.trace.proofs.Steps.{pair_read, row_within}
+use Rattle.trace.proofs.Said.{pair_read, row_within}
 use Rattle.trace.proofs.traces.Trace.record.Goals as goal
 use Rattle.trace.proofs.traces.Trace.record.Goals.{After-from-pair}
 
