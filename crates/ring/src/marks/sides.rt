@@ -1,7 +1,7 @@
 // One side of a ring, the producer's or the consumer's.
-ghost use Rattle.std.specs.Prelude.{◌≡◌, ◌+◌, ◌^◌, ◌<◌, ◌↔◌, IsTrue};
-ghost use Rattle.ring.specs.Sides.{claiming, gone_on, Holds, GivesBack, Passes};
-ghost use Rattle.ring.specs.Wrap.{past, ahead};
+ghost use Rattle.std.specs.Prelude.{◌≡◌};
+ghost use Rattle.ring.specs.Sides.{Unclaims, Passes};
+ghost use Rattle.ring.specs.Wrap.{past};
 
 use umem::refusal::Refusal;
 
@@ -27,26 +27,13 @@ impl Side {
         self.mark.wrapping_add(self.claimed)
     }
 
-    // Whether the slot of a mark is claimed.
-    pub(super) fn claims(&self, mark: u32) -> bool
-        ensures { IsTrue result ↔ (ahead mark self.now.mark < self.now.claimed) }
+    // Claims n slots fewer: the last, as the mark stays.
+    pub(super) fn unclaim(&mut self, n: u32) -> Result<(), Refusal>
+        ensures { Unclaims self.old n result self.new }
     {
-        mark.wrapping_sub(self.mark) < self.claimed
-    }
-
-    // Claims the next n slots too.
-    pub(super) fn claim(&mut self, n: u32)
-        requires { self.old.claimed + n < 2 ^ 32 }
-        ensures { self.new ≡ claiming self.old (self.old.claimed + n) }
-    {
-        self.claimed += n;
-    }
-
-    // Gives up the last n claimed slots.
-    pub(super) fn give_back(&mut self, n: u32) -> Result<(), Refusal>
-        ensures { GivesBack self.old n result self.new }
-    {
-        self.check(n)?;
+        if n > self.claimed {
+            return Err(Refusal::OutsideSpan);
+        }
         self.claimed -= n;
         Ok(())
     }
@@ -55,26 +42,8 @@ impl Side {
     pub(super) fn pass(&mut self, n: u32) -> Result<(), Refusal>
         ensures { Passes self.old n result self.new }
     {
-        self.check(n)?;
-        self.go_on(n);
-        Ok(())
-    }
-
-    // Moves on by n slots, claimed or not.
-    pub(super) fn go_on(&mut self, n: u32)
-        ensures { self.new ≡ gone_on self.old n }
-    {
+        self.unclaim(n)?;
         self.mark = self.mark.wrapping_add(n);
-        self.claimed = self.claimed.saturating_sub(n);
-    }
-
-    // Whether n slots are claimed.
-    fn check(&self, n: u32) -> Result<(), Refusal>
-        ensures { Holds self.now n result }
-    {
-        if n > self.claimed {
-            return Err(Refusal::OutsideSpan);
-        }
         Ok(())
     }
 }

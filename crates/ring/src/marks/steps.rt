@@ -13,7 +13,7 @@ impl Marks {
         if n > self.free() {
             return (0, first);
         }
-        self.producer.claim(n);
+        self.producer.claimed += n;
         (n, first)
     }
 
@@ -21,7 +21,7 @@ impl Marks {
     pub(crate) fn withdraw(&mut self, n: u32) -> Result<(), Refusal>
         ensures { Withdraws self.old n result self.new }
     {
-        self.producer.give_back(n)
+        self.producer.unclaim(n)
     }
 
     // Hands the first n reserved slots over to the consumer.
@@ -37,7 +37,7 @@ impl Marks {
     {
         let first = self.consumer.behind();
         let count = n.min(self.waiting() - self.consumer.claimed);
-        self.consumer.claim(count);
+        self.consumer.claimed += count;
         (count, first)
     }
 
@@ -45,7 +45,7 @@ impl Marks {
     pub(crate) fn cancel(&mut self, n: u32) -> Result<(), Refusal>
         ensures { Cancels self.old n result self.new }
     {
-        self.consumer.give_back(n)
+        self.consumer.unclaim(n)
     }
 
     // Gives the slots of the first n peeked entries back to the producer.
@@ -62,7 +62,8 @@ impl Marks {
         if n > self.waiting() {
             return Err(Refusal::OutsideSpan);
         }
-        self.consumer.go_on(n);
+        self.consumer.mark = self.consumer.mark.wrapping_add(n);
+        self.consumer.claimed = self.consumer.claimed.saturating_sub(n);
         Ok(())
     }
 }

@@ -90,7 +90,7 @@ impl Marks {
         requires { side.claimed ≤ self.now.size }
         ensures { Finds self.now mark side.mark side.claimed result }
     {
-        if !side.claims(mark) {
+        if mark.wrapping_sub(side.mark) >= side.claimed {
             return Err(Refusal::OutsideSpan);
         }
         Ok(self.slot(mark))

@@ -5,7 +5,8 @@ ghost use Rattle.ring.specs.Rings.{queue};
 use super::Ring;
 
 impl<'a, E> Ring<'a, E> {
-    // The waiting entries, oldest first, in two parts: as far as the last slot, and then from the first slot on.
+    // The waiting entries, oldest first, in two parts: as far as the last slot, and then from the first slot on. They are
+    // so few that a count of them fits.
     pub(crate) fn waiting_parts(&self) -> (&[E], &[E])
         ensures parts { queue self.now ≡ result.0.now ++ result.1.now }
         ensures few { length (queue self.now) ≤ 256 }
