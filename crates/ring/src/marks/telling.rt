@@ -77,11 +77,14 @@ impl Marks {
         self.slot_claimed(self.consumer, mark)
     }
 
-    // The slot at the consumer's mark, which the oldest waiting entry has.
+    // The slot at the consumer's mark, which the oldest waiting entry has, and 0 where there is no slot.
     pub(crate) fn oldest_slot(&self) -> usize
         ensures slot { 0 < self.now.size → result ≡ self.now.consumer % self.now.size }
         ensures within { result ≤ self.now.size }
     {
+        if self.size == 0 {
+            return 0;
+        }
         self.slot(self.consumer.mark)
     }
 
@@ -96,11 +99,12 @@ impl Marks {
         Ok(self.slot(mark))
     }
 
-    // The slot of a mark, and 0 where there is none. The size is a power of two, so a mask gives the remainder.
+    // The slot of a mark. The size is a power of two, so a mask gives the remainder.
     fn slot(&self, mark: u32) -> usize
-        ensures slot { 0 < self.now.size → result ≡ mark % self.now.size }
-        ensures within { result ≤ self.now.size }
+        requires { 0 < self.now.size }
+        ensures slot { result ≡ mark % self.now.size }
+        ensures within { result < self.now.size }
     {
-        (mark & self.size.saturating_sub(1)) as usize
+        (mark & (self.size - 1)) as usize
     }
 }
