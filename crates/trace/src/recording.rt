@@ -1,5 +1,6 @@
 // Records that a caller collects in memory of its own, to write them as a trace.
-ghost use Rattle.std.specs.Prelude.{◌≤◌, length, take};
+ghost use Rattle.std.specs.Prelude.{◌*◌, ◌≤◌, length, take};
+ghost use Rattle.model.specs.Traces.{longest_record};
 ghost use Rattle.trace.specs.Pairs.{Gapless, Sized};
 
 use crate::layout::{MAX_RECORD, MAX_RECORDS, Record};
@@ -16,6 +17,7 @@ pub struct Recording<'a> {
     count: usize,
     used: usize,
     ghost few: { count ≤ 1024 },
+    ghost short: { used ≤ count * longest_record },
     ghost listed: { count ≤ length table.now },
     ghost inside: { used ≤ length area.now },
     ghost gapless: { Gapless 0 (take count table.now) used },
