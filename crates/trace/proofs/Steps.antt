@@ -6,11 +6,11 @@ use Rattle.std.proofs.lemmas.List.{take_all, take-append-drop, drop-drop, length
 use Rattle.model.specs.Traces.{Record, Traceable, Throughout, RecordLength, laid, record_of, file, word, word_at, table, packed, part_at}
 use Rattle.model.proofs.Packing.{all, start, packable, packed_below, length-packed, count_back}
 use Rattle.trace.specs.declared.pairs.Pair.{Pair}
-use Rattle.trace.specs.Files.{NoRecords, Headed, Stand, StandFrom, IsTrace, pair_in, records_in}
-use Rattle.trace.specs.Pairs.{cut, cut_records, row_of, rows, Gapless, Sized}
+use Rattle.trace.specs.Files.{NoRecords, Headed, Stand, StandFrom, IsTrace, records_in}
+use Rattle.trace.specs.Pairs.{cut, cut_records, pair_in, row_of, rows, Gapless, Sized}
 use Rattle.trace.proofs.Chains.{Chained, chained}
 use Rattle.trace.proofs.Rows.{cut_fit, cut_file}
-use Rattle.trace.proofs.Said.{number_said, pair_said, row_pair}
+use Rattle.trace.proofs.Said.{number_said, pair_back, row_pair}
 
 -- A FILE OF RECORDS PASSES
 
@@ -35,7 +35,7 @@ placed_back a [] h = refl
 placed_back a (q ∷ qs) h =
     let l = length-append q (all qs) in
     let p : Pair = record { offset = a; length = length q } in
-    let e : pair_in (row_of p) ≡ p = pair_said p (row_of p) (omega arith) (omega arith) refl in
+    let e : pair_in (row_of p) ≡ p = pair_back p (omega arith) (omega arith) in
     let r = placed_back (a + length q) qs (omega arith) in
     cc
 
