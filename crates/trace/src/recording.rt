@@ -9,7 +9,8 @@ use crate::writing::write_file;
 use umem::frames::check_packet_length;
 use umem::refusal::Refusal;
 
-// The pairs in use lie in the table, follow one another with no gap, and name all bytes in use.
+// At most 1,024 pairs are in use. They lie in the table, follow one another with no gap, are as long as records are, and
+// name all bytes in use.
 #[derive(Drop)]
 pub struct Recording<'a> {
     table: &'a mut [Pair],
