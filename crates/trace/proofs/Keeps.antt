@@ -1,6 +1,7 @@
 -- What always holds of a recording, and what adding a record keeps.
-use Rattle.std.proofs.Common.{◌≡◌, ℕ, ◌+◌, ◌*◌, ◌<◌, ◌≤◌, List, [], ◌∷◌, ◌++◌, map, length, take, drop, sym, ap, ◌∙◌, subst, arith}
+use Rattle.std.proofs.Common.{◌≡◌, ℕ, ◌+◌, ◌<◌, ◌≤◌, List, [], ◌∷◌, ◌++◌, map, length, take, drop, sym, ap, ◌∙◌, subst, arith}
 use Rattle.std.specs.Prelude.{slice_set}
+use Rattle.std.proofs.Math.ListN.{length-set}
 use Rattle.std.proofs.lemmas.List.{take-take, take_more_set, take_at, drop_at, drop-take, length-take-le, map_push}
 use Rattle.umem.specs.Frames.{written, PacketLength}
 use Rattle.umem.proofs.Written.{front_written}
@@ -9,20 +10,13 @@ use Rattle.trace.specs.declared.pairs.Pair.{Pair}
 use Rattle.trace.specs.declared.recording.Recording.{Recording}
 use Rattle.trace.specs.Pairs.{cut, cut_records, Gapless, Sized}
 use Rattle.trace.specs.Recordings.{pairs, held_records}
-use Rattle.trace.proofs.Chains.{Chained, chained, chained_below, parts_kept, gapless_more}
+use Rattle.trace.proofs.Chains.{Chained, chained, parts_kept, gapless_more}
 use Rattle.trace.proofs.Rows.{listed_fit}
 use Rattle.trace.proofs.Said.{throughout_push}
 
 module _ (s : Recording) where
   chain : Chained 0 (pairs s) s.used
   chain = chained 0 (pairs s) s.used s.gapless
-
-  pub used_below : s.used ≤ 1793 * 1024
-  used_below =
-      let b = chained_below 0 (pairs s) s.used chain s.sized in
-      let n = length-take-le s.count s.table.now s.listed in
-      let f = s.few in
-      omega arith
 
   -- WRITING
 
@@ -38,6 +32,9 @@ module _ (s : Recording) where
       subst Traceable same_records (listed_fit (pairs s) (take s.used s.area.now) (record { few = omega arith; sized = s.sized; gapless = subst (Gapless 0 (pairs s)) (sym u) s.gapless }))
 
   -- ADDING
+
+  pub listed_kept : (p : Pair) → s.count < length s.table.now → s.count + 1 ≤ length (slice_set s.table.now s.count p)
+  listed_kept p h = let l = length-set s.table.now s.count p in omega arith
 
   module _ (r : Record) (p : Pair) (at : p.offset ≡ s.used) (long : p.length ≡ length (laid r)) (free : s.count < length s.table.now) where
     pairs_more : take (s.count + 1) (slice_set s.table.now s.count p) ≡ pairs s ++ p ∷ []

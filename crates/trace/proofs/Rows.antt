@@ -1,12 +1,12 @@
 -- The file of records that are held as pairs and bytes.
-use Rattle.std.proofs.Common.{◌≡◌, ℕ, ◌+◌, ◌-◌, ◌*◌, ◌^◌, ◌<◌, ◌≤◌, List, [], ◌∷◌, ◌++◌, map, length, get_or, take, sym, refl, ap, ◌∙◌, arith}
+use Rattle.std.proofs.Common.{◌≡◌, ℕ, ◌+◌, ◌-◌, ◌*◌, ◌^◌, ◌<◌, ◌≤◌, List, [], ◌∷◌, ◌++◌, map, length, get_or, take, drop, sym, refl, ap, ◌∙◌, arith}
 use Rattle.std.proofs.lemmas.List.{append_assoc, length-append, length-map, length-take-le, take_all, take_more, flat_map_more}
 use Rattle.umem.specs.Frames.{written}
 use Rattle.umem.proofs.Written.{written_more}
-use Rattle.model.specs.Traces.{word, table, packed, file, Traceable, Throughout, RecordLength}
+use Rattle.model.specs.Traces.{word, table, packed, file, Traceable, Throughout}
 use Rattle.model.proofs.Packing.{all, start}
 use Rattle.trace.specs.declared.pairs.Pair.{Pair}
-use Rattle.trace.specs.Pairs.{cut, cut_records, rows, Listed}
+use Rattle.trace.specs.Pairs.{cut, cut_records, rows, Listed, Sized}
 use Rattle.trace.proofs.Chains.{Chained, chained, chained_below, ends_within, parts_joined, cuts_sized, rows_table}
 use Rattle.trace.proofs.Held.{laid_all, records_fit}
 
@@ -14,19 +14,34 @@ pub length-rows : (s : ℕ) (ps : List Pair) → length (rows s ps) ≡ 8 * leng
 length-rows s [] = refl
 length-rows s (p ∷ ps) = let r = length-rows s ps in omega arith
 
+-- the records that a chain of pairs cuts out of bytes are such as a trace can have
+pub cut_fit : (xs : List ℕ) (a : ℕ) (ps : List Pair) (e : ℕ) → Chained a ps e → Sized ps → e ≤ length xs → length ps ≤ 1024 → Traceable (cut_records xs ps)
+cut_fit xs a ps e h sized l few =
+    let n = length-map ps (cut xs) in
+    records_fit (map (cut xs) ps) (omega arith) (cuts_sized xs a ps e h sized l)
+
+-- their file is the count, the rows of the pairs and the bytes that they cut
+pub cut_file :
+    (xs : List ℕ) (s a : ℕ) (ps : List Pair) (e : ℕ) →
+    Chained a ps e →
+    Sized ps →
+    e ≤ length xs →
+    s + a ≡ start (length ps) →
+    file (cut_records xs ps) ≡ word (length ps) ++ (rows s ps ++ take (e - a) (drop a xs))
+unfolding packed
+cut_file xs s a ps e h sized l z =
+    let parts = map (cut xs) ps in
+    ap packed (laid_all parts (cuts_sized xs a ps e h sized l))
+    ∙ ap (λ (k : ℕ). word k ++ (table (start k) parts ++ all parts)) (length-map ps (cut xs))
+    ∙ ap (λ (bs : List ℕ). word (length ps) ++ (bs ++ all parts)) (ap (λ (k : ℕ). table k parts) (sym z) ∙ sym (rows_table xs s a ps e h l))
+    ∙ ap (λ (bs : List ℕ). word (length ps) ++ (rows s ps ++ bs)) (parts_joined xs a ps e h)
+
 module _ (ps : List Pair) (area : List ℕ) (h : Listed ps area) where
   chain : Chained 0 ps (length area)
   chain = chained 0 ps (length area) h.gapless
 
-  parts_sized : Throughout (λ p. RecordLength (length p)) (map (cut area) ps)
-  parts_sized = cuts_sized area 0 ps (length area) chain h.sized (omega arith)
-
-  -- they are records that a trace can have
   pub listed_fit : Traceable (cut_records area ps)
-  listed_fit =
-      let n = length-map ps (cut area) in
-      let f = h.few in
-      records_fit (map (cut area) ps) (omega arith) parts_sized
+  listed_fit = cut_fit area 0 ps (length area) chain h.sized (omega arith) h.few
 
   pub small : Throughout (λ p. p.offset < 2 ^ 31) ps
   small k d l =
@@ -35,24 +50,10 @@ module _ (ps : List Pair) (area : List ℕ) (h : Listed ps area) where
       let f = h.few in
       omega arith
 
-  -- the file is the count, the rows of the pairs and the bytes
   pub listed_file : file (cut_records area ps) ≡ word (length ps) ++ (rows (start (length ps)) ps ++ area)
-  unfolding packed
   listed_file =
-      let parts = map (cut area) ps in
-      let n = length-map ps (cut area) in
-      let z : start (length ps) + 0 ≡ start (length ps) = omega arith in
-      let t : rows (start (length ps)) ps ≡ table (start (length ps)) parts =
-      rows_table area (start (length ps)) 0 ps (length area) chain (omega arith) ∙ ap (λ (k : ℕ). table k parts) z
-      in
-      let y : length area - 0 ≡ length area = omega arith in
-      let j : all parts ≡ area =
-      parts_joined area 0 ps (length area) chain ∙ ap (λ (k : ℕ). take k area) y ∙ take_all (length area) area (omega arith)
-      in
-      ap packed (laid_all parts parts_sized)
-      ∙ ap (λ (k : ℕ). word k ++ (table (start k) parts ++ all parts)) n
-      ∙ ap (λ (xs : List ℕ). word (length ps) ++ (xs ++ all parts)) (sym t)
-      ∙ ap (λ (xs : List ℕ). word (length ps) ++ (rows (start (length ps)) ps ++ xs)) j
+      cut_file area (start (length ps)) 0 ps (length area) chain h.sized (omega arith) (omega arith)
+      ∙ ap (λ (bs : List ℕ). word (length ps) ++ (rows (start (length ps)) ps ++ bs)) (take_all (length area - 0) area (omega arith))
 
   pub listed_long : length (file (cut_records area ps)) ≡ start (length ps) + length area
   listed_long =

@@ -6,8 +6,8 @@ use Rattle.std.proofs.lemmas.Bool.{cases_lt}
 use Rattle.model.specs.Traces.{Throughout, RecordLength, value, word, word_at}
 use Rattle.model.proofs.Packing.{value_low}
 use Rattle.trace.specs.declared.pairs.Pair.{Pair}
-use Rattle.trace.specs.Files.{Headed, Follows, StandFrom, pair_in}
-use Rattle.trace.specs.Pairs.{row_of, rows, Gapless, Sized}
+use Rattle.trace.specs.Files.{Headed, Follows, StandFrom}
+use Rattle.trace.specs.Pairs.{IsRow, pair_in, row_of, rows, Gapless, Sized}
 use Rattle.trace.proofs.Chains.{Chained, chained, ends_within, one_end, next_of, gapless_more}
 use Rattle.trace.proofs.Held.{pair_at}
 
@@ -25,12 +25,11 @@ throughout_push P xs x h p k d l =
 pub number_said : (n : ℕ) (bs : List ℕ) → n < 2 ^ 32 → word n ≡ bs → n ≡ value bs
 number_said n bs h e = sym (value_low 4 n (omega arith)) ∙ ap value e
 
--- and a pair what its row says
-pub pair_said : (p : Pair) (row : List ℕ) → p.offset < 2 ^ 32 → p.length < 2 ^ 32 → row_of p ≡ row → pair_in row ≡ p
-pair_said p row fo fl e =
-    let o = number_said p.offset (take 4 row) fo (ap (take 4) e) in
-    let l = number_said p.length (take 4 (drop 4 row)) fl (ap (λ (bs : List ℕ). take 4 (drop 4 bs)) e) in
-    sym (ap (λ (n : ℕ). record { offset = n; length = p.length }) o ∙ ap (λ (n : ℕ). record { offset = word_at row 0; length = n }) l)
+-- a pair is read back from its row
+pub pair_back : (p : Pair) → p.offset < 2 ^ 32 → p.length < 2 ^ 32 → pair_in (row_of p) ≡ p
+pair_back p fo fl =
+    ap (λ (n : ℕ). record { offset = n; length = value (word p.length) }) (value_low 4 p.offset (omega arith))
+    ∙ ap (λ (n : ℕ). record { offset = p.offset; length = n }) (value_low 4 p.length (omega arith))
 
 -- eight bytes of a file say the pair that stands there
 pub row_pair : (bytes : List ℕ) (i : ℕ) → pair_in (take 8 (drop (4 + 8 * i) bytes)) ≡ pair_at bytes i
@@ -56,12 +55,10 @@ pub pair_read :
     (bytes : List ℕ) (rows : List (List ℕ)) (i : ℕ) (d : List ℕ) (p : Pair) →
     Headed bytes rows →
     i < length rows →
-    p.offset < 2 ^ 32 →
-    p.length < 2 ^ 32 →
-    row_of p ≡ get_or rows i d →
+    IsRow (get_or rows i d) p →
     p ≡ pair_at bytes i
-pair_read bytes rows i d p head h fo fl e =
-    sym (pair_said p (get_or rows i d) fo fl e)
+pair_read bytes rows i d p head h row =
+    sym row.read
     ∙ ap (λ (rs : List (List ℕ)). pair_in (get_or rs i d)) head.listed
     ∙ ap pair_in (row_at (length rows) (drop 4 bytes) i d h ∙ ap (take 8) (drop-drop (8 * i) 4 bytes))
     ∙ row_pair bytes i
@@ -72,25 +69,23 @@ pair_read bytes rows i d p head h fo fl e =
 pub stand_more :
     (place : ℕ) (rows : List (List ℕ)) (i end next : ℕ) (d : List ℕ) (p : Pair) →
     i < length rows →
-    p.offset < 2 ^ 32 →
-    p.length < 2 ^ 32 →
-    row_of p ≡ get_or rows i d →
+    IsRow (get_or rows i d) p →
     StandFrom place (take i rows) end →
     Follows p end next →
     StandFrom place (take (i + 1) rows) next
-stand_more place rows i end next d p h fo fl e s f =
+stand_more place rows i end next d p h row s f =
     let ps = map pair_in (take i rows) in
     let more : take (i + 1) rows ≡ take i rows ++ get_or rows i d ∷ [] = take_more rows i d h in
     let m : map pair_in (take (i + 1) rows) ≡ ps ++ p ∷ [] =
     ap (map pair_in) more
     ∙ map_push pair_in (take i rows) (get_or rows i d)
-    ∙ ap (λ (q : Pair). ps ++ q ∷ []) (pair_said p (get_or rows i d) fo fl e)
+    ∙ ap (λ (q : Pair). ps ++ q ∷ []) row.read
     in
     record {
       said = ap (map row_of) m
           ∙ map_push row_of ps p
           ∙ ap (λ (rs : List (List ℕ)). rs ++ row_of p ∷ []) s.said
-          ∙ ap (λ (r : List ℕ). take i rows ++ r ∷ []) e
+          ∙ ap (λ (r : List ℕ). take i rows ++ r ∷ []) row.written
           ∙ sym more;
       sized = subst Sized (sym m) (throughout_push (λ q. RecordLength q.length) ps p s.sized f.sized);
       gapless = subst (λ (qs : List Pair). Gapless place qs next) (sym m) (gapless_more place ps p end next f.begins f.ends s.gapless);
@@ -100,16 +95,14 @@ stand_more place rows i end next d p h fo fl e s f =
 pub wrong_next :
     (place : ℕ) (rows : List (List ℕ)) (i end : ℕ) (d : List ℕ) (p : Pair) →
     i < length rows →
-    p.offset < 2 ^ 32 →
-    p.length < 2 ^ 32 →
-    row_of p ≡ get_or rows i d →
+    IsRow (get_or rows i d) p →
     StandFrom place (take i rows) end →
     ((next : ℕ) → ¬ (Follows p end next)) →
     (e : ℕ) → ¬ (StandFrom place rows e)
-wrong_next place rows i end d p h fo fl r t wrong e s =
+wrong_next place rows i end d p h row t wrong e s =
     let ps = map pair_in rows in
     let n = length-map rows pair_in in
-    let q : get_or ps i p ≡ p = get_or-map pair_in rows i d p h ∙ pair_said p (get_or rows i d) fo fl r in
+    let q : get_or ps i p ≡ p = get_or-map pair_in rows i d p h ∙ row.read in
     let front : Chained place (take i ps) end =
     subst (λ (qs : List Pair). Chained place qs end) (sym (take-map pair_in i rows)) (chained place (map pair_in (take i rows)) end t.gapless)
     in
@@ -121,15 +114,13 @@ wrong_next place rows i end d p h fo fl r t wrong e s =
 pub row_within :
     (place : ℕ) (rows : List (List ℕ)) (end i : ℕ) (d : List ℕ) (p : Pair) →
     i < length rows →
-    p.offset < 2 ^ 32 →
-    p.length < 2 ^ 32 →
-    row_of p ≡ get_or rows i d →
+    IsRow (get_or rows i d) p →
     StandFrom place rows end →
     (1 ≤ p.length) × (p.offset + p.length ≤ end)
-row_within place rows end i d p h fo fl e s =
+row_within place rows end i d p h row s =
     let ps = map pair_in rows in
     let n = length-map rows pair_in in
-    let q : get_or ps i p ≡ p = get_or-map pair_in rows i d p h ∙ pair_said p (get_or rows i d) fo fl e in
+    let q : get_or ps i p ≡ p = get_or-map pair_in rows i d p h ∙ row.read in
     let w = ends_within place ps end i p (chained place ps end s.gapless) (omega arith) in
     let z = s.sized i p (omega arith) in
     let P : Pair → Type 0 = λ a. (1 ≤ a.length) × (a.offset + a.length ≤ end) in

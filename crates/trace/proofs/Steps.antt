@@ -3,14 +3,14 @@ use Rattle.std.proofs.Common.{◌≡◌, ℕ, zero, suc, ◌+◌, ◌-◌, ◌*�
 use Rattle.std.specs.List.{flat_map, range_with_len}
 use Rattle.std.specs.Simd.{first_chunks}
 use Rattle.std.proofs.lemmas.List.{take_all, take-append-drop, drop-drop, length-take-le, length-append, length-map, length-drop}
-use Rattle.model.specs.Traces.{Record, Traceable, Throughout, RecordLength, laid, file, word, word_at, table, packed, part_at, parts_in}
+use Rattle.model.specs.Traces.{Record, Traceable, Throughout, RecordLength, laid, record_of, file, word, word_at, table, packed, part_at}
 use Rattle.model.proofs.Packing.{all, start, packable, packed_below, length-packed, count_back}
 use Rattle.trace.specs.declared.pairs.Pair.{Pair}
-use Rattle.trace.specs.Files.{NoRecords, Headed, Stand, StandFrom, IsTrace, pair_in}
-use Rattle.trace.specs.Pairs.{cut, row_of, rows, Gapless, Sized}
-use Rattle.trace.proofs.Chains.{Chained, chained, parts_joined, cuts_sized, rows_table}
-use Rattle.trace.proofs.Held.{length-parts_in, laid_all, records_fit}
-use Rattle.trace.proofs.Said.{number_said, pair_said, row_pair}
+use Rattle.trace.specs.Files.{NoRecords, Headed, Stand, StandFrom, IsTrace, records_in}
+use Rattle.trace.specs.Pairs.{cut, cut_records, pair_in, row_of, rows, Gapless, Sized}
+use Rattle.trace.proofs.Chains.{Chained, chained}
+use Rattle.trace.proofs.Rows.{cut_fit, cut_file}
+use Rattle.trace.proofs.Said.{number_said, pair_back, row_pair}
 
 -- A FILE OF RECORDS PASSES
 
@@ -35,7 +35,7 @@ placed_back a [] h = refl
 placed_back a (q ∷ qs) h =
     let l = length-append q (all qs) in
     let p : Pair = record { offset = a; length = length q } in
-    let e : pair_in (row_of p) ≡ p = pair_said p (row_of p) (omega arith) (omega arith) refl in
+    let e : pair_in (row_of p) ≡ p = pair_back p (omega arith) (omega arith) in
     let r = placed_back (a + length q) qs (omega arith) in
     cc
 
@@ -154,41 +154,33 @@ module _ (bytes : List ℕ) (table_rows : List (List ℕ)) (head : Headed bytes 
   chain : Chained (start count) ps (length bytes)
   chain = chained (start count) ps (length bytes) s.gapless
 
-  cuts : map (cut bytes) ps ≡ parts_in bytes count
-  cuts = ap (λ (rs : List (List ℕ)). map (cut bytes) (map pair_in rs)) head.listed ∙ rows_parts bytes count 0
+  same : cut_records bytes ps ≡ records_in bytes count
+  same =
+      ap (λ (rs : List (List ℕ)). cut_records bytes (map pair_in rs)) head.listed ∙ ap (map record_of) (rows_parts bytes count 0)
 
-  exact : packed (map (cut bytes) ps) ≡ bytes
-  unfolding packed
+  exact : file (cut_records bytes ps) ≡ bytes
   exact =
-      let n : length (map (cut bytes) ps) ≡ count = ap length cuts ∙ length-parts_in bytes count in
+      let n : length ps ≡ count = length-map table_rows pair_in in
       let long = head.long in
       let dl = length-drop (start count) bytes in
-      let z : 0 + start count ≡ start count = omega arith in
-      let rowed : table (start count) (map (cut bytes) ps) ≡ take (8 * count) (drop 4 bytes) =
-      ap (λ (k : ℕ). table k (map (cut bytes) ps)) (sym z)
-      ∙ sym (rows_table bytes 0 (start count) ps (length bytes) chain (omega arith))
-      ∙ rows_from_0 ps
-      ∙ ap (flat_map (λ r. r)) (s.said ∙ head.listed)
-      ∙ chunks_joined count (drop 4 bytes)
+      let rowed : rows 0 ps ≡ take (8 * count) (drop 4 bytes) =
+      rows_from_0 ps ∙ ap (flat_map (λ r. r)) (s.said ∙ head.listed) ∙ chunks_joined count (drop 4 bytes)
       in
-      let joined : all (map (cut bytes) ps) ≡ drop (8 * count) (drop 4 bytes) =
-      parts_joined bytes (start count) ps (length bytes) chain
-      ∙ take_all (length bytes - start count) (drop (start count) bytes) (omega arith)
-      ∙ sym (drop-drop (8 * count) 4 bytes)
+      let joined : take (length bytes - start count) (drop (start count) bytes) ≡ drop (8 * count) (drop 4 bytes) =
+      take_all (length bytes - start count) (drop (start count) bytes) (omega arith) ∙ sym (drop-drop (8 * count) 4 bytes)
       in
-      ap (λ (k : ℕ). word k ++ (table (start k) (map (cut bytes) ps) ++ all (map (cut bytes) ps))) n
-      ∙ ap (λ (xs : List ℕ). xs ++ (table (start count) (map (cut bytes) ps) ++ all (map (cut bytes) ps))) head.bytes_of
-      ∙ ap (λ (xs : List ℕ). take 4 bytes ++ (xs ++ all (map (cut bytes) ps))) rowed
-      ∙ ap (λ (xs : List ℕ). take 4 bytes ++ (take (8 * count) (drop 4 bytes) ++ xs)) joined
-      ∙ ap (λ (xs : List ℕ). take 4 bytes ++ xs) (take-append-drop (8 * count) (drop 4 bytes))
+      cut_file bytes 0 (start count) ps (length bytes) chain s.sized (omega arith) (omega arith)
+      ∙ ap (λ (bs : List ℕ). word (length ps) ++ (rows 0 ps ++ bs)) joined
+      ∙ ap (λ (bs : List ℕ). word (length ps) ++ (bs ++ drop (8 * count) (drop 4 bytes))) rowed
+      ∙ ap (λ (bs : List ℕ). word (length ps) ++ bs) (take-append-drop (8 * count) (drop 4 bytes))
+      ∙ ap (λ (bs : List ℕ). bs ++ drop 4 bytes) (ap word n ∙ head.bytes_of)
       ∙ take-append-drop 4 bytes
 
   pub made : IsTrace bytes count
   made =
-      let n = length-parts_in bytes count in
+      let n : length ps ≡ count = length-map table_rows pair_in in
       let f = head.few in
-      let sized = subst (Throughout (λ p. RecordLength (length p))) cuts (cuts_sized bytes (start count) ps (length bytes) chain s.sized (omega arith)) in
       record {
-        fits = records_fit (parts_in bytes count) (omega arith) sized;
-        exact = ap packed (laid_all (parts_in bytes count) sized ∙ sym cuts) ∙ exact;
+        fits = subst Traceable same (cut_fit bytes (start count) ps (length bytes) chain s.sized (omega arith) (omega arith));
+        exact = ap file (sym same) ∙ exact;
       }

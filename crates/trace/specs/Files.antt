@@ -3,9 +3,9 @@ use Rattle.std.specs.Prelude.{◌≡◌, ◌≢◌, ℕ, ◌+◌, ◌*◌, ◌�
 use Rattle.std.specs.Simd.{first_chunks}
 use Rattle.umem.specs.declared.refusal.Refusal.{Refusal}
 use Rattle.umem.specs.declared.refusal.Refusal.TheVariants.{NotATrace}
-use Rattle.model.specs.Traces.{Record, Traceable, RecordLength, file, word, word_at, parts_in, record_of}
+use Rattle.model.specs.Traces.{Record, Traceable, RecordLength, file, word, parts_in, record_of}
 use Rattle.trace.specs.declared.pairs.Pair.{Pair}
-use Rattle.trace.specs.Pairs.{row_of, Gapless, Sized}
+use Rattle.trace.specs.Pairs.{pair_in, row_of, Gapless, Sized}
 
 -- the first n records of a file, in their order
 abbrev pub records_in : List ℕ → ℕ → List Record
@@ -32,10 +32,6 @@ pub record Headed (bytes : List ℕ) (rows : List (List ℕ)) : Type 0 where
   pub bytes_of : word (length rows) ≡ take 4 bytes
   pub long : 4 + 8 * length rows ≤ length bytes
   pub listed : rows ≡ first_chunks 8 (length rows) (drop 4 bytes)
-
--- the pair that a row says
-abbrev pub pair_in : List ℕ → Pair
-pair_in row = record { offset = word_at row 0; length = word_at row 4 }
 
 -- no end is such, so the bytes are no trace
 abbrev pub NoEnd : (ℕ → Type 0) → Refusal → Type 0

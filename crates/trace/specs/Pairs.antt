@@ -1,7 +1,7 @@
 -- What a table of pairs cuts out of bytes.
 use Rattle.std.specs.Prelude.{◌≡◌, ℕ, ◌+◌, ◌≤◌, List, [], ◌∷◌, ◌++◌, map, length, take, drop}
 use Rattle.std.specs.List.{flat_map}
-use Rattle.model.specs.Traces.{Record, record_of, word, Throughout, RecordLength}
+use Rattle.model.specs.Traces.{Record, record_of, word, word_at, Throughout, RecordLength}
 use Rattle.trace.specs.declared.pairs.Pair.{Pair}
 
 -- the bytes that a pair names
@@ -34,6 +34,15 @@ Sized ps = Throughout (λ p. RecordLength p.length) ps
 -- a pair as a row of a table: its two numbers
 abbrev pub row_of : Pair → List ℕ
 row_of p = word p.offset ++ word p.length
+
+-- the pair that a row says
+abbrev pub pair_in : List ℕ → Pair
+pair_in row = record { offset = word_at row 0; length = word_at row 4 }
+
+-- a row and a pair say the same
+pub record IsRow (row : List ℕ) (p : Pair) : Type 0 where
+  pub read : pair_in row ≡ p
+  pub written : row_of p ≡ row
 
 -- the table of a trace file, whose records begin at a place
 abbrev pub rows : ℕ → List Pair → List ℕ

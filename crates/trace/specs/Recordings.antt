@@ -35,7 +35,7 @@ pub record Same (s t : Recording) : Type 0 where
   pub table : t.table.now ≡ s.table.now
   pub area : t.area.now ≡ s.area.now
 
--- one record was added behind the others, and no other byte or pair changed
+-- one record was added behind the others, also in the table and the bytes, where nothing else changed
 pub record Added (s t : Recording) (r : Record) : Type 0 where
   pub count : t.count ≡ s.count + 1
   pub used : t.used ≡ s.used + length (laid r)

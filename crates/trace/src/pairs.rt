@@ -1,6 +1,5 @@
 // Where records stand among bytes.
-ghost use Rattle.std.specs.Prelude.{◌≡◌};
-ghost use Rattle.trace.specs.Pairs.{row_of};
+ghost use Rattle.trace.specs.Pairs.{IsRow};
 
 use crate::words::{number_in, word_of};
 
@@ -13,7 +12,7 @@ pub struct Pair {
 
 // The pair that a row of a table says.
 impl From<[u8; 8]> for Pair {
-    ghost from_gives = { λ row pair. row_of pair ≡ row };
+    ghost from_gives = { IsRow };
 
     fn from(row: [u8; 8]) -> Pair {
         let [a, b, c, d, e, f, g, h] = row;
@@ -26,7 +25,7 @@ impl From<[u8; 8]> for Pair {
 
 // A pair as a row of a table.
 impl From<Pair> for [u8; 8] {
-    ghost from_gives = { λ pair row. row ≡ row_of pair };
+    ghost from_gives = { λ pair row. IsRow row pair };
 
     fn from(pair: Pair) -> [u8; 8] {
         let [a, b, c, d] = word_of(pair.offset);

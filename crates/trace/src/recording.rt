@@ -1,5 +1,6 @@
 // Records that a caller collects in memory of its own, to write them as a trace.
-ghost use Rattle.std.specs.Prelude.{◌≤◌, length, take};
+ghost use Rattle.std.specs.Prelude.{◌*◌, ◌≤◌, length, take};
+ghost use Rattle.model.specs.Traces.{longest_record};
 ghost use Rattle.trace.specs.Pairs.{Gapless, Sized};
 
 use crate::layout::{MAX_RECORD, MAX_RECORDS, Record};
@@ -8,7 +9,8 @@ use crate::writing::write_file;
 use umem::frames::check_packet_length;
 use umem::refusal::Refusal;
 
-// The pairs in use lie in the table, follow one another with no gap, and name all bytes in use.
+// At most 1,024 pairs are in use. They lie in the table, follow one another with no gap, are as long as records are, and
+// name all bytes in use.
 #[derive(Drop)]
 pub struct Recording<'a> {
     table: &'a mut [Pair],
@@ -16,6 +18,7 @@ pub struct Recording<'a> {
     count: usize,
     used: usize,
     ghost few: { count ≤ 1024 },
+    ghost short: { used ≤ count * longest_record },
     ghost listed: { count ≤ length table.now },
     ghost inside: { used ≤ length area.now },
     ghost gapless: { Gapless 0 (take count table.now) used },

@@ -55,6 +55,17 @@ fn no_records(rt: HostRuntime) {
 }
 
 #[test]
+fn rows_and_pairs(rt: HostRuntime) {
+    let pair = Pair {
+        offset: 12,
+        length: 15,
+    };
+    let row = [12, 0, 0, 0, 15, 0, 0, 0];
+    assert!(rt; <[u8; 8]>::from(pair) == row);
+    assert_eq!(rt; Pair::from(row), pair);
+}
+
+#[test]
 fn one_record(rt: HostRuntime) -> Result<(), Fail> {
     let packet = [1, 2, 3, 4, 5, 6, 7, 8, 9, 10, 11, 12, 13, 14];
     let mut table = [NO_PAIR; 1];

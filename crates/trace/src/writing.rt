@@ -33,6 +33,7 @@ fn put_table(pairs: &[Pair], buffer: &mut [u8])
     ensures { buffer.new ≡ written buffer.old 4 (rows (4 + 8 * length pairs.now) pairs.now) }
 {
     let first = (4 + 8 * pairs.len()) as u32;
+    // By place: of the rows that `as_chunks_mut` lends, no contract says what the buffer holds after them.
     for (i, pair) in pairs.iter().enumerate() {
         let placed = Pair {
             offset: first + pair.offset,

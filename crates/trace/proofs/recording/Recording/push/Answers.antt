@@ -1,19 +1,12 @@
 use Rattle.std.proofs.Common.{ℕ, ◌+◌, List, take, slice_set, refl, ap, ◌∙◌, ⊎_elim, arith}
-use Rattle.std.proofs.Math.ListN.{length-set}
 use Rattle.trace.specs.Meanings.{meant}
 use Rattle.trace.specs.Pairs.{cut_records}
 use Rattle.trace.specs.Recordings.{Room}
-use Rattle.trace.proofs.Keeps.{used_below, gapless_kept, sized_kept, records_more}
+use Rattle.trace.proofs.Keeps.{listed_kept, gapless_kept, sized_kept, records_more}
 use Rattle.trace.proofs.recording.Recording.push.Goals as goal
 
-pub overflow_cast-self : goal.overflow_cast-self
-overflow_cast-self c = let b = used_below c.args.self.now in omega arith
-
 pub invariant_of-self-2-clause-listed : goal.invariant_of-self-2-clause-listed
-invariant_of-self-2-clause-listed c =
-    let s = c.args.self.now in
-    let l = length-set s.table.now s.count (record { offset = s.used; length = c.size-length.result }) in
-    omega arith
+invariant_of-self-2-clause-listed c = listed_kept c.args.self.now _ (omega arith)
 
 pub invariant_of-self-2-clause-gapless : goal.invariant_of-self-2-clause-gapless
 invariant_of-self-2-clause-gapless c =
