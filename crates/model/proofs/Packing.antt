@@ -3,6 +3,7 @@ use Rattle.std.proofs.Common.{◌≡◌, ℕ, zero, suc, ◌+◌, ◌*◌, ◌/�
 use native.Mathlib.Nat.{mod-add-div}
 use Rattle.std.specs.List.{All, AllByRecursion, flat_map}
 use Rattle.std.proofs.lemmas.List.{append_assoc, take_at, take_all, take-append-drop, drop_at, drop_more, length-append, length-map, length-take-le, get_or-map, get_or_default, get_or-take, same_lists}
+use Rattle.std.proofs.lemmas.Grind.{flat_map-append}
 use Rattle.std.proofs.lemmas.List.FromFn.{length-map-range_with_len, get_or-map-range_with_len}
 use Rattle.model.specs.Traces.{low_first, value, word, word_at, table, packed, part_at, parts_in, RecordLength, Record, laid, record_of, file, Traceable, FilesTell}
 
@@ -53,10 +54,6 @@ Part p = RecordLength (length p)
 pub record Packable (ps : List (List ℕ)) : Type 0 where
   pub few : length ps ≤ 1024
   pub sized : All Part ps
-
-pub all_append : (ps qs : List (List ℕ)) → all (ps ++ qs) ≡ all ps ++ all qs
-all_append [] qs = refl
-all_append (p ∷ ps) qs = ap (λ (bs : List ℕ). p ++ bs) (all_append ps qs) ∙ sym (append_assoc p (all ps) (all qs))
 
 pub length-table : (a : ℕ) (ps : List (List ℕ)) → length (table a ps) ≡ 8 * length ps
 length-table a [] = refl
@@ -123,7 +120,7 @@ module _ (qs : List (List ℕ)) (p : List ℕ) (ss : List (List ℕ)) where
   unfolding packed
   packed_part =
       let n = length whole in
-      let j = all_append qs (p ∷ ss) in
+      let j = flat_map-append (λ p. p) qs (p ∷ ss) in
       let a = append_assoc (table (start n) whole) (all qs) (p ++ all ss) in
       let b = append_assoc (word n) (table (start n) whole ++ all qs) (p ++ all ss) in
       cc
@@ -132,7 +129,7 @@ module _ (qs : List (List ℕ)) (p : List ℕ) (ss : List (List ℕ)) where
     pub place_fits : place + length p ≤ length (packed whole)
     place_fits =
         let l = length-packed whole in
-        let j = ap length (all_append qs (p ∷ ss)) in
+        let j = ap length (flat_map-append (λ p. p) qs (p ∷ ss)) in
         let a = length-append (all qs) (p ++ all ss) in
         let b = length-append p (all ss) in
         omega arith

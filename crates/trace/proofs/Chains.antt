@@ -1,7 +1,8 @@
 -- Pairs that follow one another with no gap.
 use Rattle.std.proofs.Common.{◌≡◌, ℕ, zero, suc, ◌+◌, ◌-◌, ◌*◌, ◌<◌, ◌≤◌, List, [], ◌∷◌, ◌++◌, map, length, get_or, take, drop, sym, refl, ap, ◌∙◌, subst, arith, take-add}
+use Rattle.std.specs.List.{All}
 use Rattle.std.proofs.lemmas.List.{append_assoc, take-take, drop-take, drop-drop, length-take-le, length-drop, length-map, get_or-map}
-use Rattle.model.specs.Traces.{word, table, Throughout, RecordLength}
+use Rattle.model.specs.Traces.{word, table, RecordLength}
 use Rattle.model.proofs.Packing.{all}
 use Rattle.trace.specs.declared.pairs.Pair.{Pair}
 use Rattle.trace.specs.Pairs.{cut, rows, Gapless, Sized}
@@ -97,7 +98,7 @@ parts_joined xs a (p ∷ ps) e h =
 pub cut_long : (xs : List ℕ) (p : Pair) → p.offset + p.length ≤ length xs → length (cut xs p) ≡ p.length
 cut_long xs p h = let d = length-drop p.offset xs in length-take-le p.length (drop p.offset xs) (omega arith)
 
-pub cuts_sized : (xs : List ℕ) (a : ℕ) (ps : List Pair) (e : ℕ) → Chained a ps e → Sized ps → e ≤ length xs → Throughout (λ p. RecordLength (length p)) (map (cut xs) ps)
+pub cuts_sized : (xs : List ℕ) (a : ℕ) (ps : List Pair) (e : ℕ) → Chained a ps e → Sized ps → e ≤ length xs → All (λ p. RecordLength (length p)) (map (cut xs) ps)
 cuts_sized xs a ps e h s l k d below =
     let n = length-map ps (cut xs) in
     let none : Pair = record { offset = 0; length = 0 } in

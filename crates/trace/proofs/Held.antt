@@ -1,11 +1,11 @@
 -- The parts of a file and the records that they lay out.
 use Rattle.std.proofs.Common.{◌≡◌, ℕ, suc, ◌+◌, ◌-◌, ◌*◌, ◌<◌, ◌≤◌, List, [], ◌∷◌, map, length, get_or, take, drop, Some, None, Option, sym, refl, ap, ◌∙◌, subst, ⊎_elim, arith, MatchOption}
 use Rattle.std.specs.Option.{option_map}
-use Rattle.std.specs.List.{slice_get}
+use Rattle.std.specs.List.{All, slice_get}
 use Rattle.std.proofs.lemmas.List.{drop_all, drop_more, length-map, length-drop, get_or-map}
 use Rattle.std.proofs.lemmas.List.FromFn.{length-map-range_with_len, get_or-map-range_with_len}
 use Rattle.std.proofs.lemmas.Option.{none-some, slice_get-get_or, slice_get_within, slice_get_cases, get_or_from_slice_get}
-use Rattle.model.specs.Traces.{Record, laid, record_of, part_at, parts_in, word_at, Traceable, Throughout, RecordLength}
+use Rattle.model.specs.Traces.{Record, laid, record_of, part_at, parts_in, word_at, Traceable, RecordLength}
 use Rattle.trace.specs.declared.layout.Record.{Record as View}
 use Rattle.trace.specs.declared.pairs.Pair.{Pair}
 use Rattle.trace.specs.Files.{records_in}
@@ -26,7 +26,7 @@ pub laid_of : (p : List ℕ) → 1 ≤ length p → laid (record_of p) ≡ p
 laid_of [] h = absurd (omega arith)
 laid_of (b ∷ p) h = refl
 
-pub laid_all : (ps : List (List ℕ)) → Throughout (λ p. RecordLength (length p)) ps → map laid (map record_of ps) ≡ ps
+pub laid_all : (ps : List (List ℕ)) → All (λ p. RecordLength (length p)) ps → map laid (map record_of ps) ≡ ps
 laid_all [] h = refl
 laid_all (p ∷ ps) h =
     let l = h 0 [] (omega arith) in
@@ -35,7 +35,7 @@ laid_all (p ∷ ps) h =
     cc
 
 -- parts of the lengths that records have are records that a trace can have
-pub records_fit : (ps : List (List ℕ)) → length ps ≤ 1024 → Throughout (λ p. RecordLength (length p)) ps → Traceable (map record_of ps)
+pub records_fit : (ps : List (List ℕ)) → length ps ≤ 1024 → All (λ p. RecordLength (length p)) ps → Traceable (map record_of ps)
 records_fit ps f h =
     let n = length-map ps record_of in
     record {

@@ -1,5 +1,6 @@
 -- What always holds of a recording, and what adding a record keeps.
 use Rattle.std.proofs.Common.{◌≡◌, ℕ, ◌+◌, ◌<◌, ◌≤◌, List, [], ◌∷◌, ◌++◌, map, length, take, drop, sym, ap, ◌∙◌, subst, arith}
+use Rattle.std.proofs.lemmas.List.Elements.{All-push}
 use Rattle.std.specs.Prelude.{slice_set}
 use Rattle.std.proofs.Math.ListN.{length-set}
 use Rattle.std.proofs.lemmas.List.{take-take, take_more_set, take_at, drop_at, drop-take, length-take-le, map_push}
@@ -12,7 +13,6 @@ use Rattle.trace.specs.Pairs.{cut, cut_records, Gapless, Sized}
 use Rattle.trace.specs.Recordings.{pairs, held_records}
 use Rattle.trace.proofs.Chains.{Chained, chained, parts_kept, gapless_more}
 use Rattle.trace.proofs.Rows.{listed_fit}
-use Rattle.trace.proofs.Said.{throughout_push}
 
 module _ (s : Recording) where
   chain : Chained 0 (pairs s) s.used
@@ -47,7 +47,7 @@ module _ (s : Recording) where
 
     pub sized_kept : PacketLength (length r.packet) → Sized (take (s.count + 1) (slice_set s.table.now s.count p))
     sized_kept h =
-        subst Sized (sym pairs_more) (throughout_push (λ q. RecordLength q.length) (pairs s) p s.sized (omega arith, omega arith))
+        subst Sized (sym pairs_more) (All-push (λ q. RecordLength q.length) (pairs s) p s.sized (omega arith, omega arith))
 
     -- the records so far stay, and the new one is read where it was written
     pub records_more :

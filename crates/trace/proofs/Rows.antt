@@ -1,9 +1,10 @@
 -- The file of records that are held as pairs and bytes.
 use Rattle.std.proofs.Common.{◌≡◌, ℕ, ◌+◌, ◌-◌, ◌*◌, ◌^◌, ◌<◌, ◌≤◌, List, [], ◌∷◌, ◌++◌, map, length, get_or, take, drop, sym, refl, ap, ◌∙◌, arith}
+use Rattle.std.specs.List.{All}
 use Rattle.std.proofs.lemmas.List.{append_assoc, length-append, length-map, length-take-le, take_all, take_more, flat_map_more}
 use Rattle.umem.specs.Frames.{written}
 use Rattle.umem.proofs.Written.{written_more}
-use Rattle.model.specs.Traces.{word, table, packed, file, Traceable, Throughout}
+use Rattle.model.specs.Traces.{word, table, packed, file, Traceable}
 use Rattle.model.proofs.Packing.{all, start}
 use Rattle.trace.specs.declared.pairs.Pair.{Pair}
 use Rattle.trace.specs.Pairs.{cut, cut_records, rows, Listed, Sized}
@@ -43,7 +44,7 @@ module _ (ps : List Pair) (area : List ℕ) (h : Listed ps area) where
   pub listed_fit : Traceable (cut_records area ps)
   listed_fit = cut_fit area 0 ps (length area) chain h.sized (omega arith) h.few
 
-  pub small : Throughout (λ p. p.offset < 2 ^ 31) ps
+  pub small : All (λ p. p.offset < 2 ^ 31) ps
   small k d l =
       let w = ends_within 0 ps (length area) k d chain l in
       let b = chained_below 0 ps (length area) chain h.sized in
@@ -73,8 +74,8 @@ module _ (ps : List Pair) (area : List ℕ) (h : Listed ps area) where
       let r = rows (start (length ps)) ps in
       let c = length-rows (start (length ps)) ps in
       let l = length-append w r in
-      ap (λ (xs : List ℕ). written xs (start (length ps)) area) (written_more before w r 0 4 (omega arith) (omega arith) (omega arith))
-      ∙ written_more before (w ++ r) area 0 (start (length ps)) (omega arith) (omega arith) (omega arith)
+      ap (λ (xs : List ℕ). written xs (start (length ps)) area) (written_more before w r 0 4 (omega arith) (omega arith))
+      ∙ written_more before (w ++ r) area 0 (start (length ps)) (omega arith) (omega arith)
       ∙ ap (written before 0) (append_assoc w r area ∙ sym listed_file)
 
 -- one turn of writing the table: a row behind the rows so far
@@ -95,5 +96,5 @@ row_written before b e v ps i d below room hb hv he =
     he
     ∙ ap (written b (4 + 8 * i)) hv
     ∙ ap (λ (xs : List ℕ). written xs (4 + 8 * i) (row (get_or ps i d))) hb
-    ∙ written_more before r (row (get_or ps i d)) 4 (4 + 8 * i) (omega arith) (omega arith) (omega arith)
+    ∙ written_more before r (row (get_or ps i d)) 4 (4 + 8 * i) (omega arith) (omega arith)
     ∙ ap (written before 4) (flat_map_more row [] (take i ps) (get_or ps i d) ∙ ap (rows s) (sym (take_more ps i d below)))

@@ -1,23 +1,15 @@
 -- What the rows of a table say, and how the records of their pairs stand.
-use Rattle.std.proofs.Common.{◌≡◌, ℕ, zero, suc, ◌+◌, ◌*◌, ◌^◌, ◌<◌, ◌≤◌, List, [], ◌∷◌, ◌++◌, map, length, get_or, take, drop, sym, refl, ap, ◌∙◌, subst, ⊎_elim, arith}
+use Rattle.std.proofs.Common.{◌≡◌, ℕ, zero, suc, ◌+◌, ◌*◌, ◌^◌, ◌<◌, ◌≤◌, List, [], ◌∷◌, ◌++◌, map, length, get_or, take, drop, sym, refl, ap, ◌∙◌, subst, arith}
+use Rattle.std.proofs.lemmas.List.Elements.{All-push}
 use Rattle.std.specs.Simd.{first_chunks}
-use Rattle.std.proofs.lemmas.List.{take_more, take-take, drop-take, take-map, drop-drop, map_push, length_push, length-map, get_or-map, get_or_append_left, get_or_push}
-use Rattle.std.proofs.lemmas.Bool.{cases_lt}
-use Rattle.model.specs.Traces.{Throughout, RecordLength, value, word, word_at}
+use Rattle.std.proofs.lemmas.List.{take_more, take-take, drop-take, take-map, drop-drop, map_push, length-map, get_or-map}
+use Rattle.model.specs.Traces.{RecordLength, value, word, word_at}
 use Rattle.model.proofs.Packing.{value_low}
 use Rattle.trace.specs.declared.pairs.Pair.{Pair}
 use Rattle.trace.specs.Files.{Headed, Follows, StandFrom}
 use Rattle.trace.specs.Pairs.{IsRow, pair_in, row_of, rows, Gapless, Sized}
 use Rattle.trace.proofs.Chains.{Chained, chained, ends_within, one_end, next_of, gapless_more}
 use Rattle.trace.proofs.Held.{pair_at}
-
-pub throughout_push : {A : Type 0} (P : A → Type 0) (xs : List A) (x : A) → Throughout P xs → P x → Throughout P (xs ++ x ∷ [])
-throughout_push P xs x h p k d l =
-    let n = length_push xs x in
-    ⊎_elim
-    (λ q. subst P (sym (get_or_append_left xs (x ∷ []) d k q)) (h k d q))
-    (λ q. subst P (sym (get_or_push xs x d k (omega arith))) p)
-    (cases_lt k (length xs))
 
 -- A ROW
 
@@ -87,7 +79,7 @@ stand_more place rows i end next d p h row s f =
           ∙ ap (λ (rs : List (List ℕ)). rs ++ row_of p ∷ []) s.said
           ∙ ap (λ (r : List ℕ). take i rows ++ r ∷ []) row.written
           ∙ sym more;
-      sized = subst Sized (sym m) (throughout_push (λ q. RecordLength q.length) ps p s.sized f.sized);
+      sized = subst Sized (sym m) (All-push (λ q. RecordLength q.length) ps p s.sized f.sized);
       gapless = subst (λ (qs : List Pair). Gapless place qs next) (sym m) (gapless_more place ps p end next f.begins f.ends s.gapless);
     }
 

@@ -1,9 +1,9 @@
 -- The steps of reading: a file of records passes them, and what passes them is a trace.
 use Rattle.std.proofs.Common.{◌≡◌, ℕ, zero, suc, ◌+◌, ◌-◌, ◌*◌, ◌/◌, ◌^◌, ◌<◌, ◌≤◌, List, [], ◌∷◌, ◌++◌, map, length, take, drop, sym, refl, ap, ◌∙◌, subst, arith, take-add}
-use Rattle.std.specs.List.{flat_map, range_with_len}
+use Rattle.std.specs.List.{All, flat_map, range_with_len}
 use Rattle.std.specs.Simd.{first_chunks}
 use Rattle.std.proofs.lemmas.List.{take_all, take-append-drop, drop-drop, length-take-le, length-append, length-map, length-drop}
-use Rattle.model.specs.Traces.{Record, Traceable, Throughout, RecordLength, laid, record_of, file, word, word_at, table, packed, part_at}
+use Rattle.model.specs.Traces.{Record, Traceable, RecordLength, laid, record_of, file, word, word_at, table, packed, part_at}
 use Rattle.model.proofs.Packing.{all, start, packable, packed_below, length-packed, count_back}
 use Rattle.trace.specs.declared.pairs.Pair.{Pair}
 use Rattle.trace.specs.Files.{NoRecords, Headed, Stand, StandFrom, IsTrace, records_in}
@@ -25,7 +25,7 @@ placed_gapless a (q ∷ qs) e h =
     let l = length-append q (all qs) in
     ap (λ (ns : List ℕ). a ∷ ns) (placed_gapless (a + length q) qs e (omega arith))
 
-placed_sized : (a : ℕ) (qs : List (List ℕ)) → Throughout (λ q. RecordLength (length q)) qs → Sized (placed a qs)
+placed_sized : (a : ℕ) (qs : List (List ℕ)) → All (λ q. RecordLength (length q)) qs → Sized (placed a qs)
 placed_sized a [] h k d l = absurd (omega arith)
 placed_sized a (q ∷ qs) h zero d l = h 0 [] (omega arith)
 placed_sized a (q ∷ qs) h (suc k) d l = placed_sized (a + length q) qs (λ j e m. h (suc j) e (omega arith)) k d (omega arith)

@@ -1,7 +1,7 @@
 -- What a table of pairs cuts out of bytes.
 use Rattle.std.specs.Prelude.{◌≡◌, ℕ, ◌+◌, ◌≤◌, List, [], ◌∷◌, ◌++◌, map, length, take, drop}
-use Rattle.std.specs.List.{flat_map}
-use Rattle.model.specs.Traces.{Record, record_of, word, word_at, Throughout, RecordLength}
+use Rattle.std.specs.List.{All, flat_map}
+use Rattle.model.specs.Traces.{Record, record_of, word, word_at, RecordLength}
 use Rattle.trace.specs.declared.pairs.Pair.{Pair}
 
 -- the bytes that a pair names
@@ -29,7 +29,7 @@ Gapless place ps end = map offset_of ps ++ end ∷ [] ≡ offsets place (map len
 
 -- each pair is as long as a record is
 abbrev pub Sized : List Pair → Type 0
-Sized ps = Throughout (λ p. RecordLength p.length) ps
+Sized ps = All (λ p. RecordLength p.length) ps
 
 -- a pair as a row of a table: its two numbers
 abbrev pub row_of : Pair → List ℕ

@@ -1,6 +1,6 @@
 // Writing the trace file of records that are held as pairs and bytes.
 ghost use Rattle.std.specs.Prelude.{◌≡◌, ◌+◌, ◌*◌, ◌^◌, ◌<◌, ◌≤◌, length};
-ghost use Rattle.model.specs.Traces.{Throughout};
+ghost use Rattle.std.specs.List.{All};
 ghost use Rattle.umem.specs.Frames.{written};
 ghost use Rattle.trace.specs.Pairs.{cut_records, rows, Listed};
 ghost use Rattle.trace.specs.Writing.{Writes};
@@ -28,7 +28,7 @@ pub(crate) fn write_file(pairs: &[Pair], bytes: &[u8], buffer: &mut [u8]) -> Res
 // Writes the table behind the count: where each record begins in the file, and how long it is.
 fn put_table(pairs: &[Pair], buffer: &mut [u8])
     requires few { length pairs.now ≤ 1024 }
-    requires small { Throughout (λ p. p.offset < 2 ^ 31) pairs.now }
+    requires small { All (λ p. p.offset < 2 ^ 31) pairs.now }
     requires room { 4 + 8 * length pairs.now ≤ length buffer.old }
     ensures { buffer.new ≡ written buffer.old 4 (rows (4 + 8 * length pairs.now) pairs.now) }
 {

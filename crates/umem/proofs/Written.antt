@@ -2,11 +2,8 @@
 use Rattle.std.proofs.Common.{◌≡◌, ℕ, ◌+◌, ◌≤◌, List, ◌++◌, length, take, refl, sym, ap, ◌∙◌, arith}
 use Rattle.std.proofs.Math.Seq.{paste}
 use Rattle.std.proofs.lemmas.List.{take_all, length-append}
-use Rattle.std.proofs.lemmas.List.Edits.{length-paste, take-paste, paste-paste}
+use Rattle.std.proofs.lemmas.List.Edits.{take-paste, paste-paste}
 use Rattle.umem.specs.Frames.{written}
-
-pub length-written : (bytes part : List ℕ) (i : ℕ) → i + length part ≤ length bytes → length (written bytes i part) ≡ length bytes
-length-written bytes part i h = length-paste bytes i part (length part) h (omega arith)
 
 -- what stands before the part, and the part
 pub front_written : (bytes part : List ℕ) (i n : ℕ) → i ≤ length bytes → n ≡ i + length part → take n (written bytes i part) ≡ take i bytes ++ part
@@ -16,13 +13,8 @@ front_written bytes part i n h e =
     ∙ ap (λ (xs : List ℕ). take i bytes ++ xs) (take_all (length part) part (omega arith))
 
 -- two parts written one behind the other are one part
-pub written_more :
-    (bytes xs ys : List ℕ) (i n : ℕ) →
-    i ≤ length bytes →
-    n ≡ i + length xs →
-    n ≤ length bytes →
-    written (written bytes i xs) n ys ≡ written bytes i (xs ++ ys)
-written_more bytes xs ys i n h e l =
+pub written_more : (bytes xs ys : List ℕ) (i n : ℕ) → i ≤ length bytes → n ≡ i + length xs → written (written bytes i xs) n ys ≡ written bytes i (xs ++ ys)
+written_more bytes xs ys i n h e =
     ap (λ (k : ℕ). written (written bytes i xs) k ys) e
     ∙ paste-paste bytes i xs ys (length xs) (length ys) refl refl h
     ∙ ap (paste bytes i (xs ++ ys)) (sym (length-append xs ys))

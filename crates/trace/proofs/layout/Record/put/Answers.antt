@@ -9,4 +9,4 @@ returns c =
     let packet = c.args.self.packet.now in
     c.put-2.ensures
     ∙ ap (λ (bytes : List ℕ). written bytes (at + 1) packet) c.put.ensures
-    ∙ written_more c.args.buffer.now (c.args.self.port ∷ []) packet at (at + 1) (omega arith) (omega arith) (omega arith)
+    ∙ written_more c.args.buffer.now (c.args.self.port ∷ []) packet at (at + 1) (omega arith) (omega arith)
