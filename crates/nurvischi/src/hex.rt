@@ -1,6 +1,7 @@
 // Bytes as hexadecimal pairs.
 use std::fmt;
 
+// Printed byte by byte, where the library's encoder makes a `String` of each record.
 #[derive(Clone, Copy)]
 pub struct Hex<'a>(pub &'a [u8]);
 

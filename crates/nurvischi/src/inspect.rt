@@ -5,6 +5,7 @@ use std::fs;
 use trace::{Record, Trace};
 
 pub fn run(rt: &HostRuntime, path: String) -> Result<(), Fault> {
+    // By a match: the path moves into this error or the next one, so a closure can't take it.
     let file = match fs::read(rt, path.as_str()) {
         Ok(file) => file,
         Err(why) => return Err(Fault::Unreadable(path, why)),

@@ -29,6 +29,7 @@ impl Cause {
     }
 }
 
+// By hand: the text is promised, and a derived `Display` promises none.
 impl fmt::Display for Cause {
     ghost output = { λ c. Some (cause_words c) };
 

@@ -13,7 +13,8 @@ impl Refusal {
         self as u8
     }
 
-    // The refusal in plain words.
+    // The refusal in plain words. No trait joins these calls with those of `Cause`: nothing is generic over the two, so it
+    // would say them once more.
     pub fn words(self) -> &'static str
         ensures { result.now ≡ refusal_words self }
     {
@@ -42,6 +43,7 @@ impl Refusal {
     }
 }
 
+// By hand: the text is promised, and a derived `Display` promises none.
 impl fmt::Display for Refusal {
     ghost output = { λ e. Some (refusal_words e) };
 
