@@ -1,5 +1,5 @@
 -- The marks and counts of a ring, and what each call does to them.
-use Rattle.std.specs.Prelude.{◌≡◌, ℕ, ◌+◌, ◌-◌, ◌%◌, ◌^◌, ◌<◌, ◌≤◌, min, bit_and, Result}
+use Rattle.std.specs.Prelude.{◌≡◌, ℕ, ◌+◌, ◌-◌, ◌%◌, ◌^◌, ◌<◌, ◌≤◌, min, bit_and, Some, None, Option, Result}
 use Rattle.umem.specs.declared.refusal.Refusal.{Refusal}
 use Rattle.umem.specs.declared.refusal.Refusal.TheVariants.{OutsideSpan}
 use Rattle.umem.specs.Refusals.{number}
@@ -70,6 +70,11 @@ Outside P k = (k ≡ number OutsideSpan) × P
 -- the slot of a mark inside the span of `count` marks from `first` on
 abbrev pub Finds : Numbers → ℕ → ℕ → ℕ → Result ℕ Refusal → Type 0
 Finds s mark first count r = Answers (Outside (count ≤ ahead mark first)) (λ slot. (slot ≡ mark % s.size) × (slot < s.size)) (Unit {0}) r
+
+-- the slot of the oldest entry that waits, and none exactly where none does
+abbrev pub FindsOldest : Numbers → Option ℕ → Type 0
+FindsOldest s (Some slot) = (slot ≡ s.consumer % s.size) × (slot < s.size) × (0 < waiting s)
+FindsOldest s None = waiting s ≡ 0
 
 -- reserve n: all or none, and the mark of the first
 pub record Reserves (s : Numbers) (n : ℕ) (r : ℕ × ℕ) (t : Numbers) : Type 0 where

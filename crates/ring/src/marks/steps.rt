@@ -5,7 +5,8 @@ use super::Marks;
 use umem::refusal::Refusal;
 
 impl Marks {
-    // Reserves n slots, all or none: how many, and the mark of the first.
+    // Reserves n slots, all or none: how many, and the mark of the first. A pair and no `Option`, since the rules tell the
+    // mark where nothing is reserved, too.
     pub(crate) fn reserve(&mut self, n: u32) -> (u32, u32)
         ensures { Reserves self.old n result self.new }
     {

@@ -1,6 +1,6 @@
 // What the marks tell.
 ghost use Rattle.std.specs.Prelude.{◌≡◌, ◌%◌, ◌<◌, ◌≤◌, ◌↔◌, IsTrue};
-ghost use Rattle.ring.specs.Marks.{waiting, free, Finds};
+ghost use Rattle.ring.specs.Marks.{waiting, free, Finds, FindsOldest};
 
 use super::Marks;
 use super::sides::Side;
@@ -77,15 +77,14 @@ impl Marks {
         self.slot_claimed(self.consumer, mark)
     }
 
-    // The slot at the consumer's mark, which the oldest waiting entry has, and 0 where there is no slot.
-    pub(crate) fn oldest_slot(&self) -> usize
-        ensures slot { 0 < self.now.size → result ≡ self.now.consumer % self.now.size }
-        ensures within { result ≤ self.now.size }
+    // The slot of the oldest waiting entry.
+    pub(crate) fn oldest_slot(&self) -> Option<usize>
+        ensures { FindsOldest self.now result }
     {
-        if self.size == 0 {
-            return 0;
+        if self.waiting() == 0 {
+            return None;
         }
-        self.slot(self.consumer.mark)
+        Some(self.slot(self.consumer.mark))
     }
 
     // The slot of a mark that the side claims.

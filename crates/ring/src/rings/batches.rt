@@ -3,8 +3,8 @@ ghost use Rattle.ring.specs.Rings.{Cancelled};
 
 use super::Ring;
 
-// The guard of a batch: `count` entries were peeked for it. Make it in place by its literal: of a ring that is lent to a
-// function which makes the guard, a proof knows nothing once the guard is gone.
+// The guard of a batch: `count` entries were peeked for it. Make it in place by its literal: through a
+// function that makes it, the proof of what it leaves of the ring did not close.
 pub(super) struct Batch<'r, 'a, E: Copy> {
     pub(super) ring: &'r mut Ring<'a, E>,
     pub(super) count: u32,

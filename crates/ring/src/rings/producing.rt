@@ -6,7 +6,8 @@ use super::Ring;
 use umem::refusal::Refusal;
 
 impl<'a, E: Copy> Ring<'a, E> {
-    // Reserves n slots, all or none: how many, and the mark of the first.
+    // Reserves n slots, all or none: how many, and the mark of the first, which the rules tell where nothing is reserved,
+    // too: so it is no `Option`.
     pub fn reserve(&mut self, n: u32) -> (u32, u32)
         ensures { Reserved self.old n result self.new }
     {

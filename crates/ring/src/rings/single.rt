@@ -26,10 +26,8 @@ impl<'a, E: Copy> Ring<'a, E> {
         ensures popped { Pops self.old result self.new }
         ensures one { Takes self.old 1 (one_of result) self.new }
     {
-        if self.marks.waiting() == 0 {
-            return None;
-        }
-        let oldest = self.slots[self.marks.oldest_slot()];
+        let slot = self.marks.oldest_slot()?;
+        let oldest = self.slots[slot];
         let _ = self.marks.consume(1);
         Some(oldest)
     }

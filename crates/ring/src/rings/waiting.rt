@@ -13,7 +13,8 @@ impl<'a, E> Ring<'a, E> {
     {
         let size = self.marks.size() as usize;
         let waiting = self.marks.waiting() as usize;
-        let (wrapped, straight) = self.slots[..size].split_at(self.marks.oldest_slot());
+        let oldest = self.marks.oldest_slot().unwrap_or(0);
+        let (wrapped, straight) = self.slots[..size].split_at(oldest);
         let first = waiting.min(straight.len());
         (&straight[..first], &wrapped[..waiting - first])
     }
