@@ -1,7 +1,7 @@
 // Bytes as hexadecimal pairs.
 use std::fmt;
 
-// Printed byte by byte, where the library's encoder makes a `String` of each record.
+// Printed byte by byte: the library's encoder makes a `String` of each record, for which memory can run out.
 #[derive(Clone, Copy)]
 pub struct Hex<'a>(pub &'a [u8]);
 

@@ -27,9 +27,7 @@ fn main(rt: HostRuntime) -> ExitCode {
 }
 
 fn run(rt: &HostRuntime) -> Result<(), Fault> {
-    let Ok(mut words) = env::args(rt) else {
-        return Err(Fault::Words("the words cannot be read as UTF-8 text"));
-    };
+    let mut words = env::args(rt).map_err(|_| Fault::NotText)?;
     let _ = words.next();
     let Some(command) = words.next() else {
         return help(rt);
@@ -37,16 +35,16 @@ fn run(rt: &HostRuntime) -> Result<(), Fault> {
     match command.as_str() {
         "help" => {
             if words.next().is_some() {
-                return Err(Fault::Words("help takes no further word"));
+                return Err(Fault::HelpTakesNone);
             }
             help(rt)
         }
         "inspect" => {
             let Some(path) = words.next() else {
-                return Err(Fault::Words("inspect takes the name of a trace file"));
+                return Err(Fault::InspectTakesOne);
             };
             if words.next().is_some() {
-                return Err(Fault::Words("inspect takes one trace file"));
+                return Err(Fault::InspectTakesNoMore);
             }
             inspect::run(rt, path)
         }

@@ -22,6 +22,10 @@ Of (call.Release n) e = (r : Result (Unit {0}) Refusal) × (e ≡ Release n r)
 Of (call.Push x) e = (r : Result (Unit {0}) Refusal) × (e ≡ Push x r)
 Of {E} call.Pop e = (r : Result (List E) Refusal) × (e ≡ Take 1 r)
 
+-- how many, and the mark of the first
+abbrev pub span_told : {E : Type 0} → ℕ × ℕ → Answer E
+span_told r = Span r.0 r.1
+
 -- the oldest entry taken, or none
 abbrev pub popped : {E : Type 0} → Result (List E) Refusal → Option E
 popped (Ok []) = None
@@ -30,11 +34,11 @@ popped (Err x) = None
 
 -- the answer that an event has: what was served, or the refusal
 abbrev pub answer_of : {E : Type 0} → Event E → Result (Answer E) Refusal
-answer_of (Reserve n r) = Ok (Span r.0 r.1)
+answer_of (Reserve n r) = Ok (span_told r)
 answer_of (Put mark e r) = result_and r (Ok Done)
 answer_of (Submit n r) = result_and r (Ok Done)
 answer_of (Withdraw n r) = result_and r (Ok Done)
-answer_of (Peek n r) = Ok (Span r.0 r.1)
+answer_of (Peek n r) = Ok (span_told r)
 answer_of (Get mark r) = result_map_both Entry (λ x. x) r
 answer_of (Cancel n r) = result_and r (Ok Done)
 answer_of (Release n r) = result_and r (Ok Done)

@@ -35,22 +35,27 @@ pub enum Answer<E> {
     Popped(Option<E>),
 }
 
+// What `reserve` and `peek` answer.
+impl<E> From<(u32, u32)> for Answer<E> {
+    ghost use Rattle.ring_scripts.specs.Scripts.{span_told};
+
+    ghost from_gives = { λ span answer. answer ≡ span_told span };
+
+    fn from((count, first): (u32, u32)) -> Answer<E> {
+        Answer::Span(count, first)
+    }
+}
+
 // Makes one call.
 pub fn perform<E: Copy>(ring: &mut Ring<E>, call: Call<E>) -> Result<Answer<E>, Refusal>
     ensures { Performs ring.old call result ring.new }
 {
     match call {
-        Call::Reserve(n) => {
-            let (count, first) = ring.reserve(n);
-            Ok(Answer::Span(count, first))
-        }
+        Call::Reserve(n) => Ok(Answer::from(ring.reserve(n))),
         Call::Put(mark, entry) => ring.put(mark, entry).and(Ok(Answer::Done)),
         Call::Submit(n) => ring.submit(n).and(Ok(Answer::Done)),
         Call::Withdraw(n) => ring.withdraw(n).and(Ok(Answer::Done)),
-        Call::Peek(n) => {
-            let (count, first) = ring.peek(n);
-            Ok(Answer::Span(count, first))
-        }
+        Call::Peek(n) => Ok(Answer::from(ring.peek(n))),
         Call::Get(mark) => ring.get(mark).map(Answer::Entry),
         Call::Cancel(n) => ring.cancel(n).and(Ok(Answer::Done)),
         Call::Release(n) => ring.release(n).and(Ok(Answer::Done)),

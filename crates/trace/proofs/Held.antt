@@ -2,14 +2,16 @@
 use Rattle.std.proofs.Common.{◌≡◌, ℕ, suc, ◌+◌, ◌-◌, ◌*◌, ◌<◌, ◌≤◌, List, [], ◌∷◌, map, length, get_or, take, drop, Some, None, Option, sym, refl, ap, ◌∙◌, subst, ⊎_elim, arith, MatchOption}
 use Rattle.std.specs.Option.{option_map}
 use Rattle.std.specs.List.{All, slice_get}
-use Rattle.std.proofs.lemmas.List.{drop_all, drop_more, length-map, length-drop, get_or-map}
+use Rattle.std.proofs.lemmas.List.{drop_all, drop_more, drop-take, take_all, length-map, length-drop, get_or-map}
 use Rattle.std.proofs.lemmas.List.FromFn.{length-map-range_with_len, get_or-map-range_with_len}
 use Rattle.std.proofs.lemmas.Option.{none-some, slice_get-get_or, slice_get_within, slice_get_cases, get_or_from_slice_get}
 use Rattle.model.specs.Traces.{Record, laid, record_of, part_at, parts_in, word_at, Traceable, RecordLength}
 use Rattle.trace.specs.declared.layout.Record.{Record as View}
 use Rattle.trace.specs.declared.pairs.Pair.{Pair}
 use Rattle.trace.specs.Files.{records_in}
-use Rattle.trace.specs.Meanings.{meant}
+use Rattle.std.specs.Iterator.{YieldsFirstBy, MakesProgress, item_count}
+use Rattle.trace.specs.declared.traces.Records.{Records}
+use Rattle.trace.specs.Meanings.{meant, records_left}
 use Rattle.trace.specs.Pairs.{cut}
 use Rattle.trace.proofs.Chains.{cut_long}
 
@@ -92,3 +94,29 @@ first_left xs i x e =
 
 pub none_left : {A : Type 0} (xs : List A) (i : ℕ) → None ≡ slice_get xs i → drop i xs ≡ []
 none_left xs i e = ⊎_elim (λ q. absurd (none-some q.0 (e ∙ q.2))) (λ q. drop_all i xs q.0) (slice_get_cases xs i).1
+
+-- the places from i to e leave the records there; from j on, one place fewer
+still_placed : {A : Type 0} (xs : List A) (i e m : ℕ) → e ≡ i + m → drop i (take e xs) ≡ take m (drop i xs)
+still_placed xs i e m is = ap (λ (n : ℕ). drop i (take n xs)) is ∙ drop-take i m xs
+
+-- what one place more gives of the records that places leave
+pub place_passed :
+    (xs : List Record) (i e j k : ℕ) (o : Option View) → k ≡ e → 0 < e - i → j ≡ i + 1 → option_map meant o ≡ slice_get xs i
+    → MatchOption o ((drop i (take e xs) ≡ []) × (drop j (take k xs) ≡ [])) (λ v. drop i (take e xs) ≡ meant v ∷ drop j (take k xs))
+place_passed xs i e j k (Some v) same more next told =
+    let m = e - i - 1 in
+    let before = still_placed xs i e (suc m) (omega arith) in
+    let after = still_placed xs j k m (omega arith) in
+    let first = (first_left xs i (meant v) told).1 in
+    before ∙ ap (take (suc m)) first ∙ ap (λ (n : ℕ). meant v ∷ take m (drop n xs)) (sym next) ∙ ap (λ (ys : List Record). meant v ∷ ys) (sym after)
+place_passed xs i e j k None same more next told =
+    let m = e - i - 1 in
+    let none = none_left xs i told in
+    let rest : drop j xs ≡ [] = drop_all j xs (omega (arith, length-drop i xs, ap length none)) in
+    (still_placed xs i e (suc m) (omega arith) ∙ ap (take (suc m)) none, still_placed xs j k m (omega arith) ∙ ap (take m) rest ∙ take_all m [] (omega arith))
+
+-- so it makes progress
+pub progress :
+    (s t : Records) (r : Option View) → YieldsFirstBy meant records_left s r t → MakesProgress (λ _. Unit {0}) (item_count records_left) s r t
+progress s t (Some v) h = let n = ap length h in record { on = λ f. (tt, f, omega arith); keeps = tt; rests = λ _. tt }
+progress s t None h = record { on = λ _. tt; keeps = tt; rests = λ f. f }

@@ -1,5 +1,5 @@
 -- What the values of this crate mean.
-use Rattle.std.specs.Prelude.{List, length, drop}
+use Rattle.std.specs.Prelude.{List, length, take, drop}
 use Rattle.model.specs.Traces.{Record}
 use Rattle.trace.specs.declared.layout.Record.{Record as View}
 use Rattle.trace.specs.declared.traces.Records.{Records}
@@ -16,7 +16,7 @@ records_of t = records_in t.file.now (length t.rows.now)
 
 -- those of them that an iterator is still to give
 abbrev pub records_left : Records → List Record
-records_left r = drop r.seen (records_of r.trace)
+records_left r = drop r.places.start (take r.places.end (records_of r.trace))
 
 -- what holds of every trace: a trace can have its records, and its file is theirs
 abbrev pub Accepted : Trace → Type 0

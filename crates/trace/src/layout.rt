@@ -5,11 +5,12 @@ ghost use Rattle.umem.specs.Frames.{written};
 ghost use Rattle.trace.specs.Meanings.{meant};
 
 use crate::words::put;
+use umem::frames::{MAX_PACKET, MIN_PACKET};
 
 // How many bytes a record has: the port byte, and a packet of 14 to 1,792 bytes.
-pub const MIN_RECORD: usize = 15;
+pub const MIN_RECORD: usize = MIN_PACKET + 1;
 
-pub const MAX_RECORD: usize = 1793;
+pub const MAX_RECORD: usize = MAX_PACKET + 1;
 
 // How many records a trace may have.
 pub const MAX_RECORDS: usize = 1024;

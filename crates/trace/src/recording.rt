@@ -11,7 +11,7 @@ use umem::refusal::Refusal;
 
 // At most 1,024 pairs are in use. They lie in the table, follow one another with no gap, are as long as records are, and
 // name all bytes in use. How much is in use is counted beside each slice, since the caller lends the memory and nothing is
-// allocated.
+// allocated. No model: clauses speak of the pairs and bytes beside the records.
 #[derive(Drop)]
 pub struct Recording<'a> {
     table: &'a mut [Pair],

@@ -5,9 +5,10 @@ ghost use Rattle.trace.specs.Files.{Follows, FoundNoTrace, Headed, IsTrace, NoEn
 use crate::layout::{MAX_RECORD, MAX_RECORDS, MIN_RECORD, Record};
 use crate::pairs::Pair;
 use crate::words::number_in;
+use std::ops::Range;
 use umem::refusal::Refusal;
 
-// A file, and the rows of the table in it, one for each record.
+// A file, and the rows of the table in it, one for each record. No model: clauses speak of the file beside the records.
 #[derive(Clone, Copy)]
 pub struct Trace<'a> {
     file: &'a [u8],
@@ -17,11 +18,11 @@ pub struct Trace<'a> {
     ghost whole: { IsTrace file.now (length rows.now) },
 }
 
-// The records of a trace that are still to come.
+// The records of a trace that are still to come, by their places.
 #[derive(Drop)]
 pub struct Records<'a> {
     trace: Trace<'a>,
-    seen: usize,
+    places: Range<usize>,
 }
 
 impl<'a> Trace<'a> {
@@ -66,7 +67,7 @@ impl<'a> Trace<'a> {
     {
         Records {
             trace: *self,
-            seen: 0,
+            places: 0..self.count(),
         }
     }
 }
@@ -82,9 +83,8 @@ impl<'a> Iterator for Records<'a> {
     ghost remaining = { item_count records_left };
 
     fn next(&mut self) -> Option<Record<'a>> {
-        let record = self.trace.record(self.seen)?;
-        self.seen += 1;
-        Some(record)
+        let i = self.places.next()?;
+        self.trace.record(i)
     }
 }
 

@@ -1,9 +1,13 @@
 -- A part written over bytes: what the library says of `paste`, for `written`.
-use Rattle.std.proofs.Common.{◌≡◌, ℕ, ◌+◌, ◌≤◌, List, ◌++◌, length, take, refl, sym, ap, ◌∙◌, arith}
+use Rattle.std.proofs.Common.{◌≡◌, ℕ, ◌+◌, ◌≤◌, List, ◌++◌, length, take, drop, refl, sym, ap, ◌∙◌, arith}
 use Rattle.std.proofs.Math.Seq.{paste}
-use Rattle.std.proofs.lemmas.List.{take_all, length-append}
-use Rattle.std.proofs.lemmas.List.Edits.{take-paste, paste-paste}
+use Rattle.std.proofs.lemmas.List.{append_assoc, take_all, length-append}
+use Rattle.std.proofs.lemmas.List.Edits.{take-paste, paste-paste, paste_all}
 use Rattle.umem.specs.Frames.{written}
+
+-- in three parts: what stands before, the part, and what stands behind
+pub written_parts : (bytes part : List ℕ) (i : ℕ) → written bytes i part ≡ (take i bytes ++ part) ++ drop (i + length part) bytes
+written_parts bytes part i = paste_all bytes i part (length part) refl ∙ sym (append_assoc (take i bytes) part (drop (i + length part) bytes))
 
 -- what stands before the part, and the part
 pub front_written : (bytes part : List ℕ) (i n : ℕ) → i ≤ length bytes → n ≡ i + length part → take n (written bytes i part) ≡ take i bytes ++ part

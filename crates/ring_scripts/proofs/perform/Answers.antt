@@ -6,7 +6,7 @@ use Rattle.ring_scripts.proofs.Performed.{performs, mapped, popped_one}
 use Rattle.ring_scripts.proofs.perform.Goals as goal
 
 pub returns-in-Reserve : goal.returns-in-Reserve
-returns-in-Reserve g c = performs _ _ _ _ _ (Reserve c.in-Reserve.n c.reserve-count.result) c.in-Reserve.is c.reserve-count.ensures (c.reserve-count.result, refl) refl
+returns-in-Reserve g c = performs _ _ _ _ _ (Reserve c.in-Reserve.n c.reserve.result) c.in-Reserve.is c.reserve.ensures (c.reserve.result, refl) (ap Ok c.from.ensures)
 
 pub returns-in-Put : goal.returns-in-Put
 returns-in-Put g c = performs _ _ _ _ _ (Put c.in-Put.mark c.in-Put.entry c.put.result) c.in-Put.is c.put.ensures (c.put.result, refl) c.and.ensures
@@ -18,7 +18,7 @@ pub returns-in-Withdraw : goal.returns-in-Withdraw
 returns-in-Withdraw g c = performs _ _ _ _ _ (Withdraw c.in-Withdraw.n c.withdraw.result) c.in-Withdraw.is c.withdraw.ensures (c.withdraw.result, refl) c.and-in-Withdraw.ensures
 
 pub returns-in-Peek : goal.returns-in-Peek
-returns-in-Peek g c = performs _ _ _ _ _ (Peek c.in-Peek.n c.peek-count.result) c.in-Peek.is c.peek-count.ensures (c.peek-count.result, refl) refl
+returns-in-Peek g c = performs _ _ _ _ _ (Peek c.in-Peek.n c.peek.result) c.in-Peek.is c.peek.ensures (c.peek.result, refl) (ap Ok c.from-in-Peek.ensures)
 
 pub returns-in-Cancel : goal.returns-in-Cancel
 returns-in-Cancel g c = performs _ _ _ _ _ (Cancel c.in-Cancel.n c.cancel.result) c.in-Cancel.is c.cancel.ensures (c.cancel.result, refl) c.and-in-Cancel.ensures

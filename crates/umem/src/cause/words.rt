@@ -13,7 +13,7 @@ impl Cause {
         self as u8
     }
 
-    // The cause in plain words.
+    // The cause in plain words: a table by hand, and no trait with `Refusal`, for the reasons there.
     pub fn words(self) -> &'static str
         ensures { result.now ≡ cause_words self }
     {

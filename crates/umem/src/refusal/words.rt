@@ -13,8 +13,8 @@ impl Refusal {
         self as u8
     }
 
-    // The refusal in plain words. No trait joins these calls with those of `Cause`: nothing is generic over the two, so it
-    // would say them once more.
+    // The refusal in plain words: a table by hand, since a derive would promise none of its texts. No trait joins these calls
+    // with those of `Cause`: nothing is generic over the two, so it would say them once more.
     pub fn words(self) -> &'static str
         ensures { result.now ≡ refusal_words self }
     {

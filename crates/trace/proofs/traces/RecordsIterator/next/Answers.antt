@@ -1,17 +1,12 @@
-use Rattle.std.proofs.Common.{length, ap, arith}
-use Rattle.trace.specs.Meanings.{meant, records_of}
-use Rattle.trace.proofs.Held.{first_left, none_left}
+use Rattle.trace.specs.Meanings.{records_of}
+use Rattle.trace.proofs.Held.{place_passed, progress}
 use Rattle.trace.proofs.traces.RecordsIterator.next.Goals as goal
-
-pub returns-in_err-record-clause-steps : goal.returns-in_err-record-clause-steps
-returns-in_err-record-clause-steps c =
-    let s = c.args.self.now in
-    let none = none_left (records_of s.trace) s.seen c.in_err-record.ensures in
-    rw c.from_residual.ensures (none, none)
 
 pub returns : goal.returns
 returns c =
     let s = c.args.self.now in
-    let l = first_left (records_of s.trace) s.seen (meant c.in_ok-record.record) c.in_ok-record.ensures in
-    let n = ap length l.1 in
-    record { steps = l.1; goes = record { on = λ f. (tt, f, omega arith); keeps = tt; rests = λ _. tt } }
+    let t = c.next.new.self in
+    let on = c.in_ok-i.ensures.steps in
+    let told = rw on.1.1 at c.record.ensures in
+    let steps = place_passed (records_of s.trace) s.places.start s.places.end t.start t.end c.record.result on.0 on.1.0 on.1.2 told in
+    record { steps = steps; goes = progress s _ c.record.result steps }
