@@ -32,7 +32,7 @@ def lines(pattern):
 def functions():
     """Each function with a body: place, name, signature, clauses, body."""
     for path, text in sources():
-        for m in re.finditer(r"^( *)(?:pub(?:\(crate\))? )?(?:const )?fn (\w+)(.*?)^\1\{\n(.*?)^\1\}", text, re.M | re.S):
+        for m in re.finditer(r"^( *)(?:pub(?:\(\w+\))? )?(?:const )?fn (\w+)(.*?)(?: \{\n|\n\1\{\n)(.*?)^\1\}", text, re.M | re.S):
             head = re.split(r"^ *(?=requires|ensures)", m.group(3), flags=re.M)
             yield f"{path}:{m.group(2)}", m.group(2), head[0], head[1:], m.group(4)
 
@@ -63,7 +63,7 @@ def groups(pairs, least):
 def main():
     fns = list(functions())
     show("1a enums", lines(r"\benum [A-Z]"))
-    show("1b results that are a number, a flag or a pair", lines(r"-> (u8|bool|\([^)])"))
+    show("1b results that are a number, a flag or a pair", lines(r"-> (u\d+|usize|bool|\([^)])"))
     names = groups(((name, place) for place, name, *_ in fns), 2)
     show("2a names of several functions", (f"{key}: {', '.join(places)}" for key, places in names))
     same = groups(((shape(body), place) for place, _, _, _, body in fns), 2)
@@ -77,7 +77,7 @@ def main():
         given = sorted(set(re.findall(r"(\w+: [^,)]+)", re.sub(r"^<[^(]*>|&('\w+ )?(mut )?", "", head.split("->")[0]))))
         travel += [(f"{a}, {b}", place) for i, a in enumerate(given) for b in given[i + 1 :]]
     show("5b parameters that travel together through three", (f"{key}: {', '.join(places)}" for key, places in groups(travel, 3)))
-    show("6 slices and counts as fields", lines(r"^ +(pub(\(crate\))? )?\w+: (&'\w+ (mut )?\[|usize|u32|u64)"))
+    show("6 slices and counts as fields", lines(r"^ +(pub(\(\w+\))? )?\w+: (&'\w+ (mut )?\[|usize|u32|u64)"))
     show("7 switches and tables of steps", lines(r"\bmatch \w+(\.as_str\(\))? \{|\bdyn\b|: fn\("))
     proofs = sorted((ROOT / "crates").glob("*/proofs/**/*.antt"))
     answers = [p for p in proofs if p.name in ("Answers.antt", "Invariants.antt")]

@@ -1,4 +1,4 @@
-// Numbers of 32 bits in a file, low byte first.
+// Numbers of 32 bits in a file, low byte first: the library's calls, with their contracts in the words of a trace file.
 ghost use Rattle.std.specs.Prelude.{◌≡◌, ◌+◌, ◌≤◌, length};
 ghost use Rattle.model.specs.Traces.{word};
 ghost use Rattle.umem.specs.Frames.{written};

@@ -1,4 +1,4 @@
-// The steps that move the marks.
+// The steps that move the marks. Each call names its side here, since callers see numbers and are lent no side.
 ghost use Rattle.ring.specs.Marks.{Reserves, Withdraws, Submits, Peeks, Cancels, Releases, Consumes};
 
 use super::Marks;
