@@ -7,9 +7,9 @@ use Rattle.umem.specs.Refusing.{Answers, NoneApplies}
 use Rattle.umem.proofs.Refusing.{answers_weaker}
 use Rattle.ring.specs.Wrap.{past, ahead}
 use Rattle.ring.specs.Spans.{span}
-use Rattle.ring.specs.Marks.{Numbers, fresh_numbers, waiting, free, with_reserved, produced, consumed, Reserves, Withdraws, Submits, Cancels, Releases}
+use Rattle.ring.specs.Marks.{Numbers, fresh_numbers, waiting, free, with_reserved, produced, consumed, Reserves, Withdraws, Submits, Releases}
 use Rattle.ring.specs.Sizes.{SizeFor}
-use Rattle.ring.specs.Rings.{State, Sound, Made, queue, draft, Reserved, Written, Submitted, RingSubmits, Withdrawn, RingWithdraws, Cancelled, RingCancels, Read, Released, RingReleases, Pops, Takes}
+use Rattle.ring.specs.Rings.{State, Sound, Made, queue, draft, Reserved, Written, Submitted, RingSubmits, Withdrawn, RingWithdraws, Read, Released, RingReleases, Pops, Takes}
 use Rattle.ring.proofs.Inside.{inside_count}
 use Rattle.ring.proofs.SpanLaws.{span_set, span_set_other, span_split, length-span, get_or-span}
 
@@ -82,9 +82,6 @@ module _ {E : Type 0} (s : State E) (ok : Sound s) where
 
   pub releases : (n : ℕ) (r : Result (Unit {0}) Refusal) (k : Numbers) → Releases s.marks n r k → RingReleases s n r (with_marks s k)
   releases n r k h = lifted s k (Released s n) r h (λ l. let i = inside_count _ _ l in released n (omega arith))
-
-  pub cancels : (n : ℕ) (r : Result (Unit {0}) Refusal) (k : Numbers) → Cancels s.marks n r k → RingCancels s n r (with_marks s k)
-  cancels n r k h = lifted s k (Cancelled s n) r h (λ _. record { moves = refl; memory = refl; waits = refl; drafts = refl })
 
   pub written :
       (mark : ℕ) (e : E) → ahead mark s.marks.producer < s.marks.reserved → mark < 2 ^ 32

@@ -108,13 +108,11 @@ fn records_in_order(rt: HostRuntime) -> Result<(), Fail> {
     }
     assert_eq!(rt; recording.write(&mut buffer), Ok(73));
     let trace = Trace::read(&buffer)?;
-    let mut seen = 0;
     for (n, record) in trace.records().enumerate() {
         assert_eq!(rt; trace.record(n), Some(record));
         assert_eq!(rt; record.port as usize, n);
-        seen = n + 1;
     }
-    assert_eq!(rt; seen, 3);
+    assert_eq!(rt; trace.records().count(), 3);
     Ok(())
 }
 
