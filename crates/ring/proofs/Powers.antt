@@ -31,7 +31,7 @@ size_some n j s h low high e =
     }
 
 -- a size divides the numbers of 32 bits
-size_whole : (n s : ℕ) → SizeFor n s → 0 < s → 2 ^ 32 % s ≡ 0
+pub size_whole : (n s : ℕ) → SizeFor n s → 0 < s → 2 ^ 32 % s ≡ 0
 size_whole n s z l =
     let two : 2 ≤ n = ⊎_elim (λ few. let e = z.none few in absurd (omega arith)) (λ h. h) (cases_lt n 2) in
     let p = z.power two in
@@ -40,13 +40,13 @@ size_whole n s z l =
     ap (λ (k : ℕ). 2 ^ 32 % k) p.3 ∙ ap (λ (k : ℕ). k % 2 ^ p.0) split ∙ mul-mod_left (2 ^ (32 - p.0)) (2 ^ p.0)
 
 -- the slot of a mark by a mask
-size_masked : (n s : ℕ) → SizeFor n s → 0 < s → (m : ℕ) → bit_and m (s - 1) ≡ m % s
+pub size_masked : (n s : ℕ) → SizeFor n s → 0 < s → (m : ℕ) → bit_and m (s - 1) ≡ m % s
 size_masked n s z l m =
     let two : 2 ≤ n = ⊎_elim (λ few. let e = z.none few in absurd (omega arith)) (λ h. h) (cases_lt n 2) in
     let p = z.power two in
     ap (λ (k : ℕ). bit_and m (k - 1)) p.3 ∙ and_mask m p.0 ∙ sym (ap (λ (k : ℕ). m % k) p.3)
 
-size_small : (n s : ℕ) → SizeFor n s → s ≤ 256
+pub size_small : (n s : ℕ) → SizeFor n s → s ≤ 256
 size_small n s z =
     ⊎_elim (λ few. omega (arith, z.none few)) (λ h. let p = z.power h in omega (arith, pow_mono p.2)) (cases_lt n 2)
 

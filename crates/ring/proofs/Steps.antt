@@ -31,7 +31,7 @@ module _ {E : Type 0} (s : State E) (ok : Sound s) where
   pub length-draft : length (draft s) ≡ s.marks.reserved
   length-draft = length-span s.marks.size s.marks.producer s.marks.reserved s.slots ok.room (omega arith)
 
-  submitted : (n : ℕ) → n ≤ s.marks.reserved → Submitted s n (with_marks s (produced s.marks n))
+  pub submitted : (n : ℕ) → n ≤ s.marks.reserved → Submitted s n (with_marks s (produced s.marks n))
   submitted n l =
       let z = s.marks.size in
       let c = s.marks.consumer in
@@ -48,7 +48,7 @@ module _ {E : Type 0} (s : State E) (ok : Sound s) where
   pub submits : (n : ℕ) (r : Result (Unit {0}) Refusal) (k : Numbers) → Submits s.marks n r k → RingSubmits s n r (with_marks s k)
   submits n r k h = lifted s k (Submitted s n) r h (λ l. submitted n (inside_count _ _ l))
 
-  withdrawn : (n : ℕ) → n ≤ s.marks.reserved → Withdrawn s n (with_marks s (with_reserved s.marks (s.marks.reserved - n)))
+  pub withdrawn : (n : ℕ) → n ≤ s.marks.reserved → Withdrawn s n (with_marks s (with_reserved s.marks (s.marks.reserved - n)))
   withdrawn n l =
       let z = s.marks.size in
       let p = s.marks.producer in
@@ -71,7 +71,7 @@ module _ {E : Type 0} (s : State E) (ok : Sound s) where
       let joint = span_split s.marks.size s.marks.producer s.marks.reserved r.0 s.slots ok.marks.whole ok.room (omega arith) in
       record { moves = h; memory = refl; waits = cc; drafts = cc }
 
-  released : (n : ℕ) → n ≤ waiting s.marks → Released s n (with_marks s (consumed s.marks n))
+  pub released : (n : ℕ) → n ≤ waiting s.marks → Released s n (with_marks s (consumed s.marks n))
   released n l =
       let z = s.marks.size in
       let c = s.marks.consumer in
@@ -97,7 +97,7 @@ module _ {E : Type 0} (s : State E) (ok : Sound s) where
       record { moves = refl; memory = refl; waits = grind arith; drafts = grind arith }
 
   -- the slot of a waiting entry
-  read_at :
+  pub read_at :
       (mark : ℕ) (d : E) → ahead mark s.marks.consumer < waiting s.marks → mark < 2 ^ 32
       → get_or (queue s) (ahead mark s.marks.consumer) d ≡ get_or s.slots (mark % s.marks.size) d
   read_at mark d l h =

@@ -17,6 +17,10 @@ pub record Sound {E : Type 0} (s : State E) : Type 0 where
   pub marks : SoundMarks s.marks
   pub room : s.marks.size ≤ length s.slots
 
+-- what holds of every ring held before a call, and holds after it
+abbrev pub StaysSound : {E : Type 0} → State E → State E → Type 0
+StaysSound s t = Sound s × Sound t
+
 -- the entries that wait, oldest first
 abbrev pub queue : {E : Type 0} → State E → List E
 queue s = span s.marks.size s.marks.consumer (waiting s.marks) s.slots

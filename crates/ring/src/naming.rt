@@ -1,7 +1,7 @@
 // Entries that name a frame, and how many of those that wait name one.
 ghost use Rattle.std.specs.Prelude.{◌≡◌, ℕ, count_by, nat_eq};
 ghost use Rattle.umem.specs.Frames.{frame_named};
-ghost use Rattle.ring.specs.Rings.{queue};
+ghost use Rattle.ring.specs.Rings.{queue, Sound};
 
 use crate::rings::Ring;
 use umem::descriptor::Descriptor;
@@ -36,13 +36,20 @@ impl NamesFrame for Descriptor {
 impl<'a, E: NamesFrame> Ring<'a, E> {
     // How many waiting entries name the frame, peeked ones too.
     pub fn count_naming(&self, frame: u64) -> u32
-        ensures { result ≡ count_by (λ e. nat_eq (E.NamesFrame.names e) frame) (queue self.now) }
+        ensures count { result ≡ count_by (λ e. nat_eq (E.NamesFrame.names e) frame) (queue self.now) }
+        ensures sound { Sound self.now }
     {
         let (front, back) = self.waiting_parts();
-        front
-            .iter()
-            .chain(back)
-            .filter(|entry| entry.named_frame() == frame)
-            .count() as u32
+        (count_in(front, frame) + count_in(back, frame)) as u32
     }
+}
+
+// How many of the entries name the frame. Each part is counted by itself: a chain asks at every entry which part is on.
+fn count_in<E: NamesFrame>(entries: &[E], frame: u64) -> usize
+    ensures { result ≡ count_by (λ e. nat_eq (E.NamesFrame.names e) frame) entries.now }
+{
+    entries
+        .iter()
+        .filter(|entry| entry.named_frame() == frame)
+        .count()
 }

@@ -1,5 +1,5 @@
 // The consumer's calls: waiting entries are peeked, read, and their slots given back.
-ghost use Rattle.ring.specs.Rings.{Peeked, Gets, RingCancels, RingReleases};
+ghost use Rattle.ring.specs.Rings.{Sound, StaysSound, Peeked, Gets, RingCancels, RingReleases};
 
 use super::Ring;
 use umem::refusal::Refusal;
@@ -7,14 +7,16 @@ use umem::refusal::Refusal;
 impl<'a, E: Copy> Ring<'a, E> {
     // Looks at up to n waiting entries more: how many, and the mark of the first.
     pub fn peek(&mut self, n: u32) -> (u32, u32)
-        ensures { Peeked self.old n result self.new }
+        ensures peeked { Peeked self.old n result self.new }
+        ensures sound { StaysSound self.old self.new }
     {
         self.marks.peek(n)
     }
 
     // Reads the entry at a peeked mark.
     pub fn get(&self, mark: u32) -> Result<E, Refusal>
-        ensures { Gets self.now mark result }
+        ensures read { Gets self.now mark result }
+        ensures sound { Sound self.now }
     {
         let slot = self.marks.peeked_slot(mark)?;
         Ok(self.slots[slot])
@@ -22,14 +24,16 @@ impl<'a, E: Copy> Ring<'a, E> {
 
     // Puts the last n peeked entries back among those to peek.
     pub fn cancel(&mut self, n: u32) -> Result<(), Refusal>
-        ensures { RingCancels self.old n result self.new }
+        ensures cancelled { RingCancels self.old n result self.new }
+        ensures sound { StaysSound self.old self.new }
     {
         self.marks.cancel(n)
     }
 
     // Gives the slots of the first n peeked entries back to the producer.
     pub fn release(&mut self, n: u32) -> Result<(), Refusal>
-        ensures { RingReleases self.old n result self.new }
+        ensures released { RingReleases self.old n result self.new }
+        ensures sound { StaysSound self.old self.new }
     {
         self.marks.release(n)
     }

@@ -1,5 +1,5 @@
 // Several entries at a time, all or none: a batch is peeked, read and released, and put back where it is left before.
-ghost use Rattle.ring.specs.Rings.{Sound, listed, pair_of, PeekedTo, Takes, TakesInto};
+ghost use Rattle.ring.specs.Rings.{Sound, StaysSound, listed, pair_of, PeekedTo, Takes, TakesInto};
 
 use super::Ring;
 use super::batches::Batch;
@@ -8,7 +8,8 @@ use umem::refusal::Refusal;
 impl<'a, E: Copy> Ring<'a, E> {
     // Takes the two oldest entries out, or none where fewer wait: `?` ends the batch then, and the one that waits stays.
     pub fn pop_pair(&mut self) -> Result<(E, E), Refusal>
-        ensures { Takes self.old 2 (listed pair_of result) self.new }
+        ensures taken { Takes self.old 2 (listed pair_of result) self.new }
+        ensures sound { StaysSound self.old self.new }
     {
         let oldest = self.consumer();
         let count = self.peek_to(2);
@@ -22,7 +23,8 @@ impl<'a, E: Copy> Ring<'a, E> {
     // Takes the oldest entries out, as many as `out` takes, or none where fewer wait: the batch is left then, before
     // anything is copied.
     pub fn pop_exact(&mut self, out: &mut [E]) -> Result<(), Refusal>
-        ensures { TakesInto self.old out.old result out.new self.new }
+        ensures taken { TakesInto self.old out.old result out.new self.new }
+        ensures sound { StaysSound self.old self.new }
     {
         if out.len() > self.size() as usize {
             return Err(Refusal::OutsideSpan);

@@ -1,5 +1,5 @@
 // One entry at a time.
-ghost use Rattle.ring.specs.Rings.{Pushes, Pops, Takes, one_of};
+ghost use Rattle.ring.specs.Rings.{StaysSound, Pushes, Pops, Takes, one_of};
 
 use super::Ring;
 use umem::refusal::Refusal;
@@ -8,7 +8,8 @@ impl<'a, E: Copy> Ring<'a, E> {
     // Adds one entry to those that wait. Refused where no slot is free, or where any is reserved: the entry would have to
     // pass those that are still being written.
     pub fn push(&mut self, entry: E) -> Result<(), Refusal>
-        ensures { Pushes self.old entry result self.new }
+        ensures pushed { Pushes self.old entry result self.new }
+        ensures sound { StaysSound self.old self.new }
     {
         if self.marks.reserved() > 0 {
             return Err(Refusal::OutsideSpan);
@@ -25,6 +26,7 @@ impl<'a, E: Copy> Ring<'a, E> {
     pub fn pop(&mut self) -> Option<E>
         ensures popped { Pops self.old result self.new }
         ensures one { Takes self.old 1 (one_of result) self.new }
+        ensures sound { StaysSound self.old self.new }
     {
         let slot = self.marks.oldest_slot()?;
         let oldest = self.slots[slot];

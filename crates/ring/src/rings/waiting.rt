@@ -1,6 +1,6 @@
 // The entries that wait, where the slots hold them.
 ghost use Rattle.std.specs.Prelude.{◌≡◌, ◌≤◌, ◌++◌, length, take};
-ghost use Rattle.ring.specs.Rings.{queue};
+ghost use Rattle.ring.specs.Rings.{queue, Sound};
 
 use super::Ring;
 
@@ -10,6 +10,7 @@ impl<'a, E> Ring<'a, E> {
     pub(crate) fn waiting_parts(&self) -> (&[E], &[E])
         ensures parts { queue self.now ≡ result.0.now ++ result.1.now }
         ensures few { length (queue self.now) ≤ 256 }
+        ensures sound { Sound self.now }
     {
         let size = self.marks.size() as usize;
         let waiting = self.marks.waiting() as usize;
@@ -29,6 +30,9 @@ impl<'a, E: Copy> Ring<'a, E> {
         let (front, back) = self.waiting_parts();
         let (head, tail) = out.split_at_mut(front.len().min(out.len()));
         head.copy_from_slice(&front[..head.len()]);
-        tail.copy_from_slice(&back[..tail.len()]);
+        // Seldom: a call that copies nothing costs as much as one that copies a few.
+        if !tail.is_empty() {
+            tail.copy_from_slice(&back[..tail.len()]);
+        }
     }
 }

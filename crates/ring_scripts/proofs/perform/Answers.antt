@@ -6,32 +6,32 @@ use Rattle.ring_scripts.proofs.Performed.{performs, mapped, popped_one}
 use Rattle.ring_scripts.proofs.perform.Goals as goal
 
 pub returns-in-Reserve : goal.returns-in-Reserve
-returns-in-Reserve g c = performs _ _ _ _ _ (Reserve c.in-Reserve.n c.reserve.result) c.in-Reserve.is c.reserve.ensures (c.reserve.result, refl) (ap Ok c.from.ensures)
+returns-in-Reserve g c = performs _ _ _ _ _ (Reserve c.in-Reserve.n c.reserve.result) c.in-Reserve.is c.reserve.ensures.reserved (c.reserve.result, refl) (ap Ok c.from.ensures)
 
 pub returns-in-Put : goal.returns-in-Put
-returns-in-Put g c = performs _ _ _ _ _ (Put c.in-Put.mark c.in-Put.entry c.put.result) c.in-Put.is c.put.ensures (c.put.result, refl) c.and.ensures
+returns-in-Put g c = performs _ _ _ _ _ (Put c.in-Put.mark c.in-Put.entry c.put.result) c.in-Put.is c.put.ensures.written (c.put.result, refl) c.and.ensures
 
 pub returns-in-Submit : goal.returns-in-Submit
-returns-in-Submit g c = performs _ _ _ _ _ (Submit c.in-Submit.n c.submit.result) c.in-Submit.is c.submit.ensures (c.submit.result, refl) c.and-in-Submit.ensures
+returns-in-Submit g c = performs _ _ _ _ _ (Submit c.in-Submit.n c.submit.result) c.in-Submit.is c.submit.ensures.submitted (c.submit.result, refl) c.and-in-Submit.ensures
 
 pub returns-in-Withdraw : goal.returns-in-Withdraw
-returns-in-Withdraw g c = performs _ _ _ _ _ (Withdraw c.in-Withdraw.n c.withdraw.result) c.in-Withdraw.is c.withdraw.ensures (c.withdraw.result, refl) c.and-in-Withdraw.ensures
+returns-in-Withdraw g c = performs _ _ _ _ _ (Withdraw c.in-Withdraw.n c.withdraw.result) c.in-Withdraw.is c.withdraw.ensures.withdrawn (c.withdraw.result, refl) c.and-in-Withdraw.ensures
 
 pub returns-in-Peek : goal.returns-in-Peek
-returns-in-Peek g c = performs _ _ _ _ _ (Peek c.in-Peek.n c.peek.result) c.in-Peek.is c.peek.ensures (c.peek.result, refl) (ap Ok c.from-in-Peek.ensures)
+returns-in-Peek g c = performs _ _ _ _ _ (Peek c.in-Peek.n c.peek.result) c.in-Peek.is c.peek.ensures.peeked (c.peek.result, refl) (ap Ok c.from-in-Peek.ensures)
 
 pub returns-in-Cancel : goal.returns-in-Cancel
-returns-in-Cancel g c = performs _ _ _ _ _ (Cancel c.in-Cancel.n c.cancel.result) c.in-Cancel.is c.cancel.ensures (c.cancel.result, refl) c.and-in-Cancel.ensures
+returns-in-Cancel g c = performs _ _ _ _ _ (Cancel c.in-Cancel.n c.cancel.result) c.in-Cancel.is c.cancel.ensures.cancelled (c.cancel.result, refl) c.and-in-Cancel.ensures
 
 pub returns-in-Release : goal.returns-in-Release
-returns-in-Release g c = performs _ _ _ _ _ (Release c.in-Release.n c.release.result) c.in-Release.is c.release.ensures (c.release.result, refl) c.and-in-Release.ensures
+returns-in-Release g c = performs _ _ _ _ _ (Release c.in-Release.n c.release.result) c.in-Release.is c.release.ensures.released (c.release.result, refl) c.and-in-Release.ensures
 
 pub returns-in-Push : goal.returns-in-Push
-returns-in-Push g c = performs _ _ _ _ _ (Push c.in-Push.entry c.push.result) c.in-Push.is c.push.ensures (c.push.result, refl) c.and-in-Push.ensures
+returns-in-Push g c = performs _ _ _ _ _ (Push c.in-Push.entry c.push.result) c.in-Push.is c.push.ensures.pushed (c.push.result, refl) c.and-in-Push.ensures
 
 pub returns-in-Get : goal.returns-in-Get
 returns-in-Get g c =
-    performs _ _ _ _ _ (Get c.in-Get.mark c.get.result) c.in-Get.is (c.get.ensures, refl) (c.get.result, refl) (mapped Entry c.get.result c.map.result c.map.ensures.cases)
+    performs _ _ _ _ _ (Get c.in-Get.mark c.get.result) c.in-Get.is (c.get.ensures.read, refl) (c.get.result, refl) (mapped Entry c.get.result c.map.result c.map.ensures.cases)
 
 pub returns-in-Pop : goal.returns-in-Pop
 returns-in-Pop g c =

@@ -10,4 +10,4 @@ returns g c =
     let fits : c.args.mark < 2 ^ 32 = omega arith in
     let within : c.in_ok-slot.slot < length c.self.inside.slots.now = omega arith in
     rw (← c.self.view_is)
-    (a.0, read _ c.self.invariant c.args.mark _ (inside_mark _ _ a.0) fits (λ d. get_or_default _ _ _ d within ∙ ap (λ i. get_or c.self.inside.slots.now i d) a.1.0))
+    (record { read = (a.0, read _ c.self.invariant c.args.mark _ (inside_mark _ _ a.0) fits (λ d. get_or_default _ _ _ d within ∙ ap (λ i. get_or c.self.inside.slots.now i d) a.1.0)); sound = c.self.invariant })

@@ -6,4 +6,4 @@ pub returns : goal.returns
 returns g c =
     let q = length-queue _ c.self.invariant in
     let d = length-draft _ c.self.invariant in
-    rw (← c.self.view_is) (λ t. let free = c.is_full.ensures.0 t in omega arith, λ full. c.is_full.ensures.1 (omega arith))
+    rw (← c.self.view_is) (record { full = (λ t. let free = c.is_full.ensures.0 t in omega arith, λ full. c.is_full.ensures.1 (omega arith)); sound = c.self.invariant })

@@ -1,7 +1,5 @@
 use Rattle.std.proofs.Common.{◌≡◌, ap, arith}
 use Rattle.ring.specs.Rings.{State}
-use Rattle.ring.specs.Runs.{Reserve}
-use Rattle.ring.proofs.Kept.{sound_step}
 use Rattle.ring.proofs.Push.{pushes}
 use Rattle.ring.proofs.rings.Ring.push.Goals as goal
 
@@ -10,5 +8,7 @@ returns g c =
     let ok = rw c.self.view_is at c.self.invariant in
     let none : c.args.self.now.marks.reserved ≡ 0 = omega (arith, ap (λ (s : State _). s.marks.reserved) c.self.view_is) in
     let held = c.reserve-count.ensures in
-    pushes _ _ _ c.reserve-count.result c.args.entry ok none c.if-count-eq0.false held (sound_step _ _ ok (Reserve 1 c.reserve-count.result) held)
-    c.in_ok-put.ensures.1 c.submit.result _ c.submit.ensures
+    let step =
+    pushes _ _ _ c.reserve-count.result c.args.entry ok none c.if-count-eq0.false held.reserved held.sound.1 c.in_ok-put.ensures.written.1 c.submit.result _
+    c.submit.ensures.submitted in
+    record { pushed = step; sound = (ok, c.submit.ensures.sound.1) }

@@ -12,4 +12,5 @@ returns g c =
           span_parts r.marks.size r.marks.consumer _ _ _ _ r.slots.now _ _ c.size-size.ensures (λ some. c.unwrap_or-oldest.ensures ∙ slot_or r.marks c.oldest_slot.result c.oldest_slot.ensures some) (omega arith)
           c.split_at.ensures.front c.split_at.ensures.back (omega arith);
       few = omega (arith, length-queue _ c.self.invariant);
+      sound = c.self.invariant;
     })
