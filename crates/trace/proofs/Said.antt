@@ -6,7 +6,7 @@ use Rattle.std.proofs.lemmas.List.{take_more, take-take, drop-take, take-map, dr
 use Rattle.model.specs.Traces.{RecordLength, value, word, word_at}
 use Rattle.model.proofs.Packing.{value_low}
 use Rattle.trace.specs.declared.pairs.Pair.{Pair}
-use Rattle.trace.specs.Files.{Headed, Follows, StandFrom}
+use Rattle.trace.specs.Files.{Headed, Follows, StandFrom, Within}
 use Rattle.trace.specs.Pairs.{IsRow, pair_in, row_of, rows, Gapless, Sized}
 use Rattle.trace.proofs.Chains.{Chained, chained, ends_within, one_end, next_of, gapless_more}
 use Rattle.trace.proofs.Held.{pair_at}
@@ -83,25 +83,6 @@ stand_more place rows i end next d p h row s f =
       gapless = subst (λ (qs : List Pair). Gapless place qs next) (sym m) (gapless_more place ps p end next f.begins f.ends s.gapless);
     }
 
--- a row whose pair doesn't follow on stands in no such rows
-pub wrong_next :
-    (place : ℕ) (rows : List (List ℕ)) (i end : ℕ) (d : List ℕ) (p : Pair) →
-    i < length rows →
-    IsRow (get_or rows i d) p →
-    StandFrom place (take i rows) end →
-    ((next : ℕ) → ¬ (Follows p end next)) →
-    (e : ℕ) → ¬ (StandFrom place rows e)
-wrong_next place rows i end d p h row t wrong e s =
-    let ps = map pair_in rows in
-    let n = length-map rows pair_in in
-    let q : get_or ps i p ≡ p = get_or-map pair_in rows i d p h ∙ row.read in
-    let front : Chained place (take i ps) end =
-    subst (λ (qs : List Pair). Chained place qs end) (sym (take-map pair_in i rows)) (chained place (map pair_in (take i rows)) end t.gapless)
-    in
-    let o = next_of place ps e end i p (chained place ps e s.gapless) front (omega arith) in
-    let P : Pair → Type 0 = λ a. RecordLength a.length in
-    wrong (end + p.length) (record { begins = sym (ap (λ (a : Pair). a.offset) q) ∙ o; sized = subst P q (s.sized i p (omega arith)); ends = refl })
-
 -- the record of each row ends within them, and has a byte
 pub row_within :
     (place : ℕ) (rows : List (List ℕ)) (end i : ℕ) (d : List ℕ) (p : Pair) →
@@ -117,6 +98,27 @@ row_within place rows end i d p h row s =
     let z = s.sized i p (omega arith) in
     let P : Pair → Type 0 = λ a. (1 ≤ a.length) × (a.offset + a.length ≤ end) in
     subst P q (omega arith, w)
+
+-- a row whose pair doesn't follow on, or not within the file, stands in no such rows
+pub wrong_next :
+    (place size : ℕ) (rows : List (List ℕ)) (i end : ℕ) (d : List ℕ) (p : Pair) →
+    i < length rows →
+    IsRow (get_or rows i d) p →
+    StandFrom place (take i rows) end →
+    ((next : ℕ) → ¬ (Within size (Follows p end) next)) →
+    (e : ℕ) → ¬ (Within size (StandFrom place rows) e)
+wrong_next place size rows i end d p h row t wrong e (s, z) =
+    let ps = map pair_in rows in
+    let n = length-map rows pair_in in
+    let q : get_or ps i p ≡ p = get_or-map pair_in rows i d p h ∙ row.read in
+    let front : Chained place (take i ps) end =
+    subst (λ (qs : List Pair). Chained place qs end) (sym (take-map pair_in i rows)) (chained place (map pair_in (take i rows)) end t.gapless)
+    in
+    let o = next_of place ps e end i p (chained place ps e s.gapless) front (omega arith) in
+    let begins : p.offset ≡ end = sym (ap (λ (a : Pair). a.offset) q) ∙ o in
+    let w = row_within place rows e i d p h row s in
+    let P : Pair → Type 0 = λ a. RecordLength a.length in
+    wrong (end + p.length) (record { begins = begins; sized = subst P q (s.sized i p (omega arith)); ends = refl }, omega (arith, w.1))
 
 pub same_end : (place : ℕ) (rows : List (List ℕ)) (e f : ℕ) → StandFrom place rows e → StandFrom place rows f → e ≡ f
 same_end place rows e f s t =

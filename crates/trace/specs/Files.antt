@@ -37,6 +37,10 @@ pub record Headed (bytes : List ℕ) (rows : List (List ℕ)) : Type 0 where
 abbrev pub NoEnd : (ℕ → Type 0) → Refusal → Type 0
 NoEnd IsEnd e = (e ≡ NotATrace) × ((end : ℕ) → ¬ (IsEnd end))
 
+-- such an end, no further than the bytes of a file
+abbrev pub Within : ℕ → (ℕ → Type 0) → ℕ → Type 0
+Within size IsEnd end = IsEnd end × (end ≤ size)
+
 -- the record of a pair begins at a place, is as long as a record is, and so ends there
 pub record Follows (p : Pair) (place end : ℕ) : Type 0 where
   pub begins : p.offset ≡ place

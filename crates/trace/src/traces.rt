@@ -1,6 +1,6 @@
 // Reading a trace file, whose records are parts of it.
 ghost use Rattle.std.specs.Prelude.{◌≡◌, length, MatchResult};
-ghost use Rattle.trace.specs.Files.{Follows, FoundNoTrace, Headed, IsTrace, NoEnd, Stand};
+ghost use Rattle.trace.specs.Files.{Follows, FoundNoTrace, Headed, IsTrace, NoEnd, Stand, Within};
 
 use crate::layout::{MAX_RECORD, MAX_RECORDS, MIN_RECORD, Record};
 use crate::pairs::Pair;
@@ -38,7 +38,7 @@ impl<'a> Trace<'a> {
         ensures rewrites { Rewrites file.now result }
     {
         let rows = table_in(file)?;
-        let end = end_of(rows)?;
+        let end = end_of(rows, file.len())?;
         if end != file.len() {
             return Err(Refusal::NotATrace);
         }
@@ -103,23 +103,27 @@ fn table_in(file: &[u8]) -> Result<&[[u8; 8]], Refusal>
     Ok(&rows[..count])
 }
 
-// Where the last record ends, if each begins where its forerunner ended.
-fn end_of(rows: &[[u8; 8]]) -> Result<usize, Refusal>
-    ensures { MatchResult result (Stand rows.now) (NoEnd (Stand rows.now)) }
+// Where the last record ends, if each begins where its forerunner ended and lies in a file of this size.
+fn end_of(rows: &[[u8; 8]], size: usize) -> Result<usize, Refusal>
+    ensures { MatchResult result (Stand rows.now) (NoEnd (Within size (Stand rows.now))) }
 {
     let mut end = 4 + 8 * rows.len();
     for row in rows {
-        end = next_end(Pair::from(*row), end)?;
+        end = next_end(Pair::from(*row), end, size)?;
     }
     Ok(end)
 }
 
-// Where the record of a pair ends, if it begins at this place, where its forerunner ended.
-fn next_end(pair: Pair, place: usize) -> Result<usize, Refusal>
-    ensures { MatchResult result (Follows pair place) (NoEnd (Follows pair place)) }
+// Where the record of a pair ends, if it begins at this place, where its forerunner ended, and lies in a file of this
+// size: so that a file that is cut short is refused at the first record that it lacks.
+fn next_end(pair: Pair, place: usize, size: usize) -> Result<usize, Refusal>
+    ensures { MatchResult result (Within size (Follows pair place)) (NoEnd (Within size (Follows pair place))) }
 {
     let length = pair.length as usize;
-    if pair.offset as usize != place || !(MIN_RECORD..=MAX_RECORD).contains(&length) {
+    if pair.offset as usize != place
+        || !(MIN_RECORD..=MAX_RECORD).contains(&length)
+        || place + length > size
+    {
         return Err(Refusal::NotATrace);
     }
     Ok(place + length)

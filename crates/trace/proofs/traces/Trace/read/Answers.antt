@@ -1,4 +1,4 @@
-use Rattle.std.proofs.Common.{◌+◌, ◌*◌, length, refl, subst}
+use Rattle.std.proofs.Common.{◌+◌, ◌*◌, length, refl, subst, arith}
 use Rattle.std.proofs.lemmas.Result.{err_from_is_err_and}
 use Rattle.umem.specs.declared.refusal.Refusal.TheVariants.{NotATrace}
 use Rattle.trace.specs.Files.{Stand}
@@ -11,7 +11,7 @@ pub returns-in_err-end-clause-reads : goal.returns-in_err-end-clause-reads
 returns-in_err-end-clause-reads c =
     let file = c.args.file.now in
     let p = err_from_is_err_and c.from_residual-in_err-end.result c.from_residual-in_err-end.ensures.1 in
-    let none = wrong_rows file c.in_ok-rows.rows.now c.in_ok-rows.ensures (c.in_err-end.ensures.1 (length file)) in
+    let none = wrong_rows file c.in_ok-rows.rows.now c.in_ok-rows.ensures (λ s. c.in_err-end.ensures.1 (length file) (s, omega arith)) in
     rw (p.1, p.2, c.in_err-end.ensures.0) (refused file NotATrace (refl, none), tt)
 
 pub returns-then-end-file-clause-reads : goal.returns-then-end-file-clause-reads

@@ -25,7 +25,7 @@ within c =
     row_within (4 + 8 * length t.rows.now) t.rows.now (length t.file.now) c.args.i _ c.from-pair.result (below c) (row c) t.standing
 
 pub slice_bounds-parse-end : goal.slice_bounds-parse-end
-slice_bounds-parse-end c = (within (goal.at.slice_bounds-parse-end c).After-from-pair).1
+slice_bounds-parse-end c = let w = within (goal.at.slice_bounds-parse-end c).After-from-pair in omega (arith, w.1)
 
 pub returns : goal.returns
 returns c =
