@@ -1,10 +1,8 @@
 -- The waiting entries in two parts.
-use Rattle.std.proofs.Common.{◌≡◌, ℕ, ◌+◌, ◌-◌, ◌%◌, ◌<◌, ◌≤◌, min, List, ◌++◌, length, take, drop, Some, None, Option, arith, append-nil}
-use Rattle.std.specs.Option.{unwrap_or}
+use Rattle.std.proofs.Common.{◌≡◌, ℕ, ◌+◌, ◌-◌, ◌%◌, ◌<◌, ◌≤◌, min, List, ◌++◌, length, take, drop, arith, append-nil}
 use Rattle.std.proofs.lemmas.List.{take-append-le, take_all}
 use Rattle.std.proofs.Math.Seq.{take-append-add}
 use Rattle.ring.specs.Spans.{span}
-use Rattle.ring.specs.Marks.{Numbers, waiting, FindsOldest}
 
 -- what is taken from two lists comes from the first as far as that goes
 pub take_parts :
@@ -12,11 +10,6 @@ pub take_parts :
 take_parts n k xs ys e =
     let sum : length xs ≤ n → n ≡ length xs + (n - k) = λ l. omega arith in
     grind (arith, take-append-le n xs ys, append-nil (take n xs), take_all k xs, take-append-add xs ys (n - k))
-
--- the slot that was found, where something waits
-pub slot_or : (s : Numbers) (o : Option ℕ) → FindsOldest s o → 0 < waiting s → unwrap_or o 0 ≡ s.consumer % s.size
-slot_or s (Some slot) h l = h.0
-slot_or s None h l = absurd (omega arith)
 
 -- a span in the parts that the slots hold it in: from its first slot on, and then from their start on
 pub span_parts :

@@ -2,6 +2,7 @@
 #![tactic(auto)]
 
 ghost use Rattle.std.specs.Prelude.{◌≡◌};
+ghost use Rattle.ring.specs.Rings.{StaysSound};
 ghost use Rattle.ring_scripts.specs.Scripts.{Performs, Continues, Session};
 
 use ring::Ring;
@@ -48,7 +49,8 @@ impl<E> From<(u32, u32)> for Answer<E> {
 
 // Makes one call.
 pub fn perform<E: Copy>(ring: &mut Ring<E>, call: Call<E>) -> Result<Answer<E>, Refusal>
-    ensures { Performs ring.old call result ring.new }
+    ensures performed { Performs ring.old call result ring.new }
+    ensures sound { StaysSound ring.old ring.new }
 {
     match call {
         Call::Reserve(n) => Ok(Answer::from(ring.reserve(n))),
@@ -66,8 +68,11 @@ pub fn perform<E: Copy>(ring: &mut Ring<E>, call: Call<E>) -> Result<Answer<E>, 
 
 // Makes each call in turn. Every past of the ring goes on by just these calls.
 pub fn run<E: Copy>(ring: &mut Ring<E>, calls: &[Call<E>])
-    ensures { Continues ring.old calls.now ring.new }
+    ensures continued { Continues ring.old calls.now ring.new }
+    ensures sound { StaysSound ring.old ring.new }
 {
+    // Asked for what it tells of the ring where there is no call.
+    let _ = ring.size();
     for call in calls {
         let _ = perform(ring, *call);
     }

@@ -12,9 +12,11 @@ impl<'a, E> Ring<'a, E> {
         ensures few { length (queue self.now) ≤ 256 }
         ensures sound { Sound self.now }
     {
+        let Some(oldest) = self.marks.oldest_slot() else {
+            return (&[], &[]);
+        };
         let size = self.marks.size() as usize;
         let waiting = self.marks.waiting() as usize;
-        let oldest = self.marks.oldest_slot().unwrap_or(0);
         let (wrapped, straight) = self.slots[..size].split_at(oldest);
         let first = waiting.min(straight.len());
         (&straight[..first], &wrapped[..waiting - first])

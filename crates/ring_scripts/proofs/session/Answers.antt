@@ -7,4 +7,4 @@ pub returns : goal.returns
 returns g c =
     let fits : c.args.start < 2 ^ 32 = omega arith in
     subst (λ (n : ℕ). Session c.args.slots.now c.args.start c.args.calls.now n) (sym c.len.ensures.count)
-    (session_of c.args.slots.now c.args.start c.args.calls.now _ _ c.new-ring.ensures.made fits c.run.ensures)
+    (session_of c.args.slots.now c.args.start c.args.calls.now _ _ c.new-ring.ensures.made fits c.run.ensures.continued)
