@@ -5,8 +5,6 @@ use Rattle.umem.specs.declared.refusal.Refusal.{Refusal}
 use Rattle.ring.specs.Wrap.{past}
 use Rattle.ring.specs.Marks.{waiting}
 use Rattle.ring.specs.Rings.{State, Sound, queue, PeekedTo, Read, Released, RingReleases, Cancelled, Takes, TakesInto}
-use Rattle.ring.specs.Runs.{Take}
-use Rattle.ring.proofs.Kept.{sound_step}
 use Rattle.ring.proofs.Steps.{length-queue}
 
 -- n entries were peeked, all of them released, and what was peeked beyond them was put back
@@ -46,9 +44,3 @@ module _
   taken_into (Ok _) freed c e =
       (taken s a b t (length out) count ok p all_peeked freed.1 c xs (e ∙ ap (take (length out)) p.waits), tt)
   taken_into (Err _) freed c e = absurd (omega (arith, freed.0.0.1, all_peeked))
-
--- as many as were wanted left, or none, and the ring is sound
-pub sound_into :
-    {E : Type 0} (s t : State E) (out xs : List E) (q : Result (Unit {0}) Refusal) → Sound s → TakesInto s out q xs t → Sound t
-sound_into s t out xs (Ok _) ok h = sound_step s t ok (Take (length out) (Ok xs)) h.0
-sound_into s t out xs (Err x) ok h = sound_step s t ok (Take (length out) (Err x)) h.0
